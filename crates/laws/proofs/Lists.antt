@@ -1,0 +1,46 @@
+-- Facts on lists: a property of each element, a test of each or of some, numbers in a row, equal beginnings.
+-- Assumes nothing.
+use mathlib.Core.Path.{_≡_, refl, sym, ap, subst, _∙_}
+use mathlib.Core.Logic.{_↔_, _⊎_, inl, inr}
+use mathlib.Core.Bool.{Bool, true, false, _&&_, _||_, Bool·beq}
+use mathlib.Core.List.{List, [], _∷_, _++_}
+use Prim.Native.Nat.{ℕ, zero, suc, _+_, _≤_, _<_}
+use native.Mathlib.Omega.{arith}
+use native.Mathlib.Decide.{ℕ-discrete}
+use lib.Dec.{T, eqb}
+use lib.ListN.{length, take, drop, getD}
+use lib.Seq.{take-at, drop-at}
+use mir.Facts.{and-yes, yes-and, or-yes, eqb-yes}
+use Rattle.laws.specs.Lists.{All, every, some, join, from}
+use Rattle.laws.specs.Tests.{oneOf}
+
+-- ---- tests
+
+pub beq-T : (a b : Bool) → T (Bool·beq a b) → T a ↔ T b
+beq-T true true t = (λ x. x, λ x. x)
+beq-T true false t = absurd t
+beq-T false true t = absurd t
+beq-T false false t = (λ x. x, λ x. x)
+
+-- ---- a property of each element
+
+pub all-append {ℓ} : {A : Type ℓ} (P : A → Type 0) (xs ys : List A) → All P xs → All P ys → All P (xs ++ ys)
+all-append P [] ys a b = b
+all-append P (x ∷ xs) ys a b = (a .0, all-append P xs ys (a .1) b)
+
+pub all-split {ℓ} : {A : Type ℓ} (P : A → Type 0) (xs ys : List A) → All P (xs ++ ys) → All P xs × All P ys
+all-split P [] ys a = (tt, a)
+all-split P (x ∷ xs) ys a = let r = all-split P xs ys (a .1) in ((a .0, r .0), r .1)
+
+pub all-join {ℓ} : {A : Type ℓ} (P : A → Type 0) (ls : List (List A)) → All (All P) ls → All P (join ls)
+all-join P [] a = tt
+all-join P (l ∷ ls) a = all-append P l (join ls) (a .0) (all-join P ls (a .1))
+
+-- ---- numbers in a row
+
+pub every-from : (f : ℕ → Bool) (i n : ℕ) → T (every f (from i n)) → (x : ℕ) → i ≤ x → x < i + n → T (f x)
+unfolding every from
+every-from f i zero t x l h = absurd (omega arith)
+every-from f i (suc n) t x l h =
+    let both = and-yes (f i) _ t in
+    elim (ℕ-discrete x i) [ yes e ↦ subst (λ (y : ℕ). T (f y)) (sym e) (both .0) | no e ↦ every-from f (suc i) n (both .1) x (omega arith) (omega arith) ]

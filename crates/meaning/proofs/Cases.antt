@@ -1,0 +1,63 @@
+-- What document 01 gives as examples, each computed: K1 to K12, the listing of K1's state, the format bytes.
+-- Assumes nothing.
+use mathlib.Core.Path.{_≡_, refl}
+use mathlib.Core.Logic.{_↔_}
+use mathlib.Core.Bool.{Bool, true, false, _&&_, Bool·beq}
+use mathlib.Core.List.{List, [], _∷_}
+use Prim.Native.Nat.{ℕ, _<_}
+use native.Mathlib.Omega.{arith}
+use lib.Dec.{T, ltb, eqb}
+use lib.ListN.{length, getD}
+use mir.Facts.{and-yes, eqb-yes, ltb-yes, yes-ltb}
+use Rattle.laws.specs.Lists.{All, every, some, from}
+use Rattle.laws.specs.Tests.{oneOf}
+use Rattle.laws.proofs.Lists.{every-from, beq-T}
+use Rattle.meaning.specs.Words.{count, offset, paraAdr, paraOS, paraType, paraSubType, subAddress, data24}
+use Rattle.meaning.specs.Registers.{formats, bytesAmong, bytesPerPixel, formatTable, sizes, location, formatByte, levels, filters, wraps, lowNot3, lowZero, targetGroup, stage, sample, groups, scaler, videoRows, find, findAmong, find3D, findVideo, registerAmong, registerAt}
+use Rattle.meaning.specs.Grants.{grantFine, grantsFine, covers, granted}
+use Rattle.meaning.specs.Batch.{typeAllowed, allowed}
+use Rattle.meaning.specs.State.{cellFormed, wellFormed, empty, apply, applyAll}
+use Rattle.meaning.specs.Positions.{kindOf, after, nextKind, nextLeft, goes, carries, writeAt, writesFrom, writesOf}
+use Rattle.meaning.specs.Reader.{unless, runIn, headerReason, valueReason, wordReason, judge, run, batchAnswer, readAnswer, readLeaves}
+use Rattle.meaning.specs.Text.{ascii}
+use Rattle.meaning.specs.Lister.{digit, hex, decimal, linesOf, lines3D, cellLines, listing}
+use Rattle.meaning.specs.Cases.{holding, cases, Holds, formatBytes}
+
+-- "K1 to K12 are one table, with a single proved statement about the definitions over it"
+pub cases-hold : All Holds cases
+unfolding cases holding count offset paraAdr paraOS paraType paraSubType subAddress data24 formats bytesAmong bytesPerPixel sizes location formatByte levels filters wraps lowNot3 lowZero targetGroup stage sample groups scaler videoRows find findAmong find3D findVideo registerAmong registerAt grantFine grantsFine covers granted typeAllowed allowed cellFormed wellFormed empty apply applyAll kindOf after nextKind nextLeft goes carries writeAt writesFrom writesOf unless runIn headerReason valueReason wordReason judge run batchAnswer readAnswer readLeaves every some from oneOf
+cases-hold = (
+  (refl, refl),
+  ((refl, refl), ((refl, refl), ((refl, refl), ((refl, refl), ((refl, refl), ((refl, refl), ((refl, refl), ((refl, refl), ((refl, refl), ((refl, refl), ((refl, refl), tt))))))))))),
+)
+
+-- "Whole example, case K1"
+pub listing-example : listing (holding 1 0x001000) ≡ ascii "cells=1\nreg=01.00.50 val=00001000\n"
+unfolding holding empty digit hex decimal linesOf lines3D cellLines listing targetGroup stage sample groups scaler videoRows from
+listing-example = refl
+
+-- ---- the format table
+
+right : ℕ → Bool
+right b = Bool·beq (ltb 0 (getD formatTable b 0)) (oneOf b formatBytes) && eqb (getD formatTable b 0) (bytesPerPixel b)
+
+tested : T (every right (from 0 256))
+unfolding right formatBytes formats bytesAmong bytesPerPixel formatTable every some oneOf from
+tested = tt
+
+-- "That is 39"
+pub formats-39 : length formatBytes ≡ 39
+unfolding formatBytes formats
+formats-39 = refl
+
+-- "one computed test shows nonzero exactly for the 39 permitted bytes"
+pub formats-exactly : (b : ℕ) → b < 256 → (0 < getD formatTable b 0) ↔ T (oneOf b formatBytes)
+unfolding right
+formats-exactly b l =
+    let same = beq-T (ltb 0 (getD formatTable b 0)) (oneOf b formatBytes) (and-yes (Bool·beq (ltb 0 (getD formatTable b 0)) _) _ (every-from right 0 256 tested b (omega arith) (omega arith)) .0) in
+    (λ p. same .0 (yes-ltb p), λ t. ltb-yes (same .1 t))
+
+-- the table's entries are the bytes per pixel that the permitted rows give
+pub formats-bytes : (b : ℕ) → b < 256 → getD formatTable b 0 ≡ bytesPerPixel b
+unfolding right
+formats-bytes b l = eqb-yes (and-yes (Bool·beq (ltb 0 (getD formatTable b 0)) (oneOf b formatBytes)) _ (every-from right 0 256 tested b (omega arith) (omega arith)) .1)

@@ -1,0 +1,50 @@
+-- The three calls on bytes: "every buffer is bytes, words are 32 bits little-endian, and the answer is one number".
+-- Assumes nothing.
+use mathlib.Core.Bool.{Bool, _&&_}
+use mathlib.Core.List.{List, [], _∷_}
+use Prim.Native.Nat.{ℕ, _/_, _%_}
+use lib.Dec.{leb, eqb}
+use lib.ListN.{length}
+use Rattle.laws.specs.Lists.{every, over}
+use Rattle.meaning.specs.declared.Answer.{Answer}
+use Rattle.meaning.specs.Words.{wordsOf, bytesOf}
+use Rattle.meaning.specs.Answers.{badBuffer, provided, settle}
+use Rattle.meaning.specs.Reader.{readAnswer, readLeaves}
+use Rattle.meaning.specs.Writer.{written, writeAnswer}
+use Rattle.meaning.specs.Lister.{listing, listAnswer}
+
+-- 13: "a buffer over 65,536 bytes, or a word buffer not a multiple of 4"
+abbrev pub mostBytes : ℕ
+mostBytes = 65536
+
+unfoldable pub bufferFine : List ℕ → Bool
+bufferFine b = leb (length b) mostBytes
+
+unfoldable pub wordBufferFine : List ℕ → Bool
+wordBufferFine b = bufferFine b && eqb (length b % 4) 0
+
+-- ---- read
+
+unfoldable pub readCall : List ℕ → List ℕ → List ℕ → Answer
+readCall batch grants st =
+    provided (every wordBufferFine (batch ∷ grants ∷ st ∷ [])) badBuffer (readAnswer (wordsOf batch) (wordsOf grants) (wordsOf st))
+
+unfoldable pub readCallLeaves : List ℕ → List ℕ → List ℕ → List ℕ
+readCallLeaves batch grants st = settle (readCall batch grants st) (bytesOf (readLeaves (wordsOf batch) (wordsOf grants) (wordsOf st))) st
+
+-- ---- write
+
+unfoldable pub writeCall : List ℕ → List ℕ → List ℕ → Answer
+writeCall st grants out =
+    provided (every wordBufferFine (st ∷ grants ∷ out ∷ [])) badBuffer (writeAnswer (wordsOf st) (wordsOf grants) (length out / 4))
+
+unfoldable pub writeCallLeaves : List ℕ → List ℕ → List ℕ → List ℕ
+writeCallLeaves st grants out = settle (writeCall st grants out) (over (bytesOf (written (wordsOf st))) out) out
+
+-- ---- list
+
+unfoldable pub listCall : List ℕ → List ℕ → Answer
+listCall st out = provided (wordBufferFine st && bufferFine out) badBuffer (listAnswer (wordsOf st) (length out))
+
+unfoldable pub listCallLeaves : List ℕ → List ℕ → List ℕ
+listCallLeaves st out = settle (listCall st out) (over (listing (wordsOf st)) out) out

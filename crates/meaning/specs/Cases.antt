@@ -1,0 +1,71 @@
+-- Document 01's cases K1 to K12 as one table, and the 39 permitted format bytes.
+-- Assumes nothing.
+use mathlib.Core.List.{List, [], _∷_, map}
+use Prim.Native.Nat.{ℕ, _+_, _*_}
+use mathlib.Core.Path.{_≡_}
+use lib.ListN.{set}
+use Rattle.laws.specs.Lists.{join}
+use Rattle.meaning.specs.declared.Answer.{Answer}
+use Rattle.meaning.specs.Registers.{cells, Format, formats}
+use Rattle.meaning.specs.State.{empty}
+use Rattle.meaning.specs.Answers.{answer}
+use Rattle.meaning.specs.Reader.{readAnswer, readLeaves}
+
+-- a batch and its grants, as words, and what the reader answers and leaves of the empty state
+pub record Case : Type 0 where
+  pub batch : List ℕ
+  pub grants : List ℕ
+  pub gives : Answer
+  pub leaves : List ℕ
+
+-- the empty state but for one cell
+unfoldable pub holding : ℕ → ℕ → List ℕ
+holding c v = set (set empty c v) (cells + c) 1
+
+-- a setting and a word are accepted, and the cell then holds the value
+abbrev pub accepted : List ℕ → ℕ → ℕ → ℕ → ℕ → Case
+accepted grants s w c v = record { batch = 0x0002043C ∷ s ∷ w ∷ []; grants = grants; gives = answer 0 3; leaves = holding c v }
+
+-- the word is refused
+abbrev pub refused : List ℕ → ℕ → ℕ → ℕ → Case
+refused grants s w r = record { batch = 0x0002043C ∷ s ∷ w ∷ []; grants = grants; gives = answer r 2; leaves = empty }
+
+-- K1's grant with a reach, and the three settings
+abbrev pub grant : ℕ → List ℕ
+grant reach = 1 ∷ 0x00100000 ∷ 0x00080000 ∷ reach ∷ []
+
+abbrev pub type01 : ℕ
+type01 = 0x00010000
+
+abbrev pub sample3 : ℕ
+sample3 = 0x23020000
+
+abbrev pub stage3 : ℕ
+stage3 = 0x03020000
+
+-- K1 to K12, a line each
+unfoldable pub cases : List Case
+cases =
+    accepted (grant 0x00080000) type01 0x50001000 1 0x001000
+    ∷ refused (grant 0x00080001) type01 0x50001000 9
+    ∷ refused [] type01 0x50001000 9
+    ∷ accepted [] type01 0x3F400400 0 0x400400
+    ∷ refused [] type01 0x3F000401 8
+    ∷ refused [] type01 0x3F000800 7
+    ∷ accepted [] type01 0x52990000 3 0x990000
+    ∷ refused [] type01 0x52940000 8
+    ∷ accepted [] sample3 0x31004100 46 0x004100
+    ∷ refused [] sample3 0x31004080 8
+    ∷ refused [] sample3 0x50000001 6
+    ∷ accepted [] stage3 0x50000001 10 0x000001
+    ∷ []
+
+abbrev pub Holds : Case → Type 0
+Holds c = (readAnswer (c .batch) (c .grants) empty ≡ c .gives) × (readLeaves (c .batch) (c .grants) empty ≡ c .leaves)
+
+-- the permitted format bytes: each five-bit code with its three-bit codes
+abbrev pub bytesIn : Format → List ℕ
+bytesIn f = map (λ (x : ℕ). f .code * 8 + x) (f .with)
+
+unfoldable pub formatBytes : List ℕ
+formatBytes = join (map bytesIn formats)

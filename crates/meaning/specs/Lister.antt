@@ -1,0 +1,69 @@
+-- 7. Listing: the exact bytes, and what the lister answers.
+-- Assumes nothing.
+use mathlib.Core.Bool.{Bool, true, false, cond}
+use mathlib.Core.List.{List, [], _∷_, _++_, map}
+use Prim.Native.Nat.{ℕ, zero, suc, _+_, _/_, _%_, _^_}
+use lib.Dec.{leb, ltb}
+use lib.ListN.{length}
+use Rattle.laws.specs.Lists.{join, over}
+use Rattle.meaning.specs.declared.Cell.{Cell}
+use Rattle.meaning.specs.declared.SubAddress.{SubAddress}
+use Rattle.meaning.specs.declared.VideoOffset.{VideoOffset}
+use Rattle.meaning.specs.declared.Answer.{Answer}
+use Rattle.meaning.specs.Registers.{Row, Group, groups, videoRows}
+use Rattle.meaning.specs.State.{valueAt, markAt, wellFormed}
+use Rattle.meaning.specs.Answers.{badState, noRoom, success, answer, provided, settle}
+use Rattle.meaning.specs.Writer.{ifMarked}
+use Rattle.meaning.specs.Text.{ascii}
+
+-- ---- digits
+
+-- a digit as a byte: 0 to 9, then a to f, "lower-case"
+unfoldable pub digit : ℕ → ℕ
+digit d = cond (ltb d 10) (48 + d) (87 + d)
+
+-- the k lowest hex digits of a number, "with every leading zero"
+unfoldable pub hex : ℕ → ℕ → List ℕ
+hex zero n = []
+hex (suc k) n = digit (n / 16 ^ k % 16) ∷ hex k n
+
+-- a number below 1,000 "in decimal without leading zeros"
+unfoldable pub decimal : ℕ → List ℕ
+decimal n =
+    cond (ltb n 10) (digit n ∷ [])
+    (cond (ltb n 100) (digit (n / 10) ∷ digit (n % 10) ∷ []) (digit (n / 100) ∷ digit (n / 10 % 10) ∷ digit (n % 10) ∷ []))
+
+-- ---- lines, "each line ended by 0Ah"
+
+abbrev pub line3D : ℕ → ℕ → SubAddress → ℕ → List ℕ
+line3D t u a v = ascii "reg=" ++ (hex 2 t ++ (ascii "." ++ (hex 2 u ++ (ascii "." ++ (hex 2 (a .0) ++ (ascii " val=" ++ (hex 8 v ++ ascii "\n")))))))
+
+-- "A video line reads `reg=23f0 val=` and eight digits"
+abbrev pub lineVideo : VideoOffset → ℕ → List ℕ
+lineVideo o v = ascii "reg=" ++ (hex 4 (o .0) ++ (ascii " val=" ++ (hex 8 v ++ ascii "\n")))
+
+-- the lines of the marked cells among rows
+unfoldable pub linesOf : {Name : Type 0} → (Name → ℕ → List ℕ) → List ℕ → List (Row Name) → List (List ℕ)
+linesOf line st [] = []
+linesOf line st (r ∷ rs) = ifMarked (markAt st (r .cell)) (line (r .name) (valueAt st (r .cell))) (linesOf line st rs)
+
+unfoldable pub lines3D : List ℕ → List Group → List (List ℕ)
+lines3D st [] = []
+lines3D st (g ∷ gs) = linesOf (line3D (g .type) (g .subType)) st (g .rows) ++ lines3D st gs
+
+-- a line for each marked cell, in cell order
+unfoldable pub cellLines : List ℕ → List (List ℕ)
+cellLines st = lines3D st groups ++ linesOf lineVideo st videoRows
+
+unfoldable pub listing : List ℕ → List ℕ
+listing st = ascii "cells=" ++ (decimal (length (cellLines st)) ++ (ascii "\n" ++ join (cellLines st)))
+
+-- ---- the call: "lister 1 then 11"
+
+unfoldable pub listAnswer : List ℕ → ℕ → Answer
+listAnswer st room =
+    provided (wellFormed st) badState (provided (leb (length (listing st)) room) noRoom (answer success (length (listing st))))
+
+-- the output after the call: "bytes past its end stay as they were"
+unfoldable pub listLeaves : List ℕ → List ℕ → List ℕ
+listLeaves st out = settle (listAnswer st (length out)) (over (listing st) out) out

@@ -1,0 +1,69 @@
+-- Where each word of a batch stands, by the counts of the headers alone: no word is judged here.
+-- Assumes nothing.
+use mathlib.Core.Bool.{cond}
+use mathlib.Core.List.{List, [], _∷_, _++_}
+use Prim.Native.Nat.{ℕ, zero, suc}
+use lib.Dec.{eqb}
+use Rattle.meaning.specs.declared.Kind.{Kind}
+use Rattle.meaning.specs.declared.Kind.the-variants.{Setting, Parameter, Video}
+use Rattle.meaning.specs.declared.Found.{Found}
+use Rattle.meaning.specs.declared.Found.the-variants.{Missing}
+use Rattle.meaning.specs.Words.{count, offset, videoOffset, following, data24}
+use Rattle.meaning.specs.Registers.{findVideo}
+use Rattle.meaning.specs.Batch.{offset3D, named}
+use Rattle.meaning.specs.State.{Write, writeTo}
+
+-- The position of a word: how many words the open packet still wants, 0 if a header is next, and else of what kind the next is.
+pub record Position : Type 0 where
+  pub kind : Kind
+  pub left : ℕ
+
+-- after a header
+unfoldable pub kindOf : ℕ → Kind
+kindOf h = cond (eqb (offset h) offset3D) Setting (Video (videoOffset h))
+
+-- after a word of a packet's body
+unfoldable pub after : Kind → ℕ → Kind
+after Setting w = Parameter w
+after (Parameter s) w = Parameter s
+after (Video o) w = Video (following o)
+
+unfoldable pub nextKind : Kind → ℕ → ℕ → Kind
+nextKind kind zero w = kindOf w
+nextKind kind (suc k) w = after kind w
+
+unfoldable pub nextLeft : ℕ → ℕ → ℕ
+nextLeft zero w = count w
+nextLeft (suc k) w = k
+
+-- the position of word i
+unfoldable pub positionFrom : Kind → ℕ → List ℕ → ℕ → Position
+positionFrom kind k ws zero = record { kind = kind; left = k }
+positionFrom kind k [] (suc i) = record { kind = kind; left = k }
+positionFrom kind k (w ∷ ws) (suc i) = positionFrom (nextKind kind k w) (nextLeft k w) ws i
+
+unfoldable pub positionAt : List ℕ → ℕ → Position
+positionAt ws i = positionFrom Setting 0 ws i
+
+-- the register that a word of a packet's body goes to, and the value that it carries there
+unfoldable pub goes : Kind → ℕ → Found
+goes Setting w = Missing
+goes (Parameter s) w = named s w
+goes (Video o) w = findVideo o
+
+unfoldable pub carries : Kind → ℕ → ℕ
+carries Setting w = w
+carries (Parameter s) w = data24 w
+carries (Video o) w = w
+
+-- the writes of a batch, word by word
+unfoldable pub writeAt : Kind → ℕ → ℕ → List Write
+writeAt kind zero w = []
+writeAt kind (suc k) w = writeTo (goes kind w) (carries kind w)
+
+unfoldable pub writesFrom : Kind → ℕ → List ℕ → List Write
+writesFrom kind k [] = []
+writesFrom kind k (w ∷ ws) = writeAt kind k w ++ writesFrom (nextKind kind k w) (nextLeft k w) ws
+
+unfoldable pub writesOf : List ℕ → List Write
+writesOf ws = writesFrom Setting 0 ws

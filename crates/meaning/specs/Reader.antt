@@ -1,0 +1,100 @@
+-- 6. What the reader answers: "reader words from the front, at each word in number order, 10 last".
+-- Assumes nothing.
+use mathlib.Core.Bool.{Bool, true, false, _&&_, cond}
+use mathlib.Core.List.{List, [], _∷_}
+use Prim.Native.Nat.{ℕ, zero, suc}
+use lib.Dec.{leb, eqb}
+use lib.Bits.{bitAnd}
+use Rattle.laws.specs.Tests.{within}
+use Rattle.meaning.specs.declared.VideoOffset.{VideoOffset}
+use Rattle.meaning.specs.declared.Found.{Found}
+use Rattle.meaning.specs.declared.Found.the-variants.{At, Missing}
+use Rattle.meaning.specs.declared.Kind.{Kind}
+use Rattle.meaning.specs.declared.Kind.the-variants.{Setting, Parameter, Video}
+use Rattle.meaning.specs.declared.Answer.{Answer}
+use Rattle.meaning.specs.Words.{count, offset, videoOffset, following, data24}
+use Rattle.meaning.specs.Registers.{Register, findVideo, isFound, registerAt}
+use Rattle.meaning.specs.Grants.{Terms, termsOf, grantsFine}
+use Rattle.meaning.specs.Batch.{reaches, offset3D, most3D, allowed, named}
+use Rattle.meaning.specs.State.{wellFormed, applyAll}
+use Rattle.meaning.specs.Positions.{nextKind, nextLeft, writesOf}
+use Rattle.meaning.specs.Answers.{badState, badGrants, badOffset, badCount, badSetting, noRegister, bitSet, badValue, notGranted, endsInside, success, answer, provided, settle}
+
+-- ---- one word: its reason, 0 where nothing speaks against it
+
+-- the reason where a test is false; where it is true, what comes after it
+unfoldable pub unless : Bool → ℕ → ℕ → ℕ
+unless true r more = more
+unless false r more = r
+
+-- the offsets o, o + 4 and on, n of them, are video registers
+unfoldable pub runIn : VideoOffset → ℕ → Bool
+runIn o zero = true
+runIn o (suc n) = let more = runIn (following o) n in isFound (findVideo o) && more
+
+-- 4 of a 3D packet
+abbrev pub reason3D : ℕ → ℕ
+reason3D h = unless (within 2 most3D (count h)) badCount success
+
+-- 3 and 4 of any other
+abbrev pub reasonVideo : ℕ → ℕ
+reasonVideo h =
+    unless (isFound (findVideo (videoOffset h))) badOffset
+    (unless (leb 1 (count h) && runIn (videoOffset h) (count h)) badCount success)
+
+unfoldable pub headerReason : ℕ → ℕ
+headerReason h = cond (eqb (offset h) offset3D) (reason3D h) (reasonVideo h)
+
+-- 7, 8 and 9
+unfoldable pub valueReason : Terms → Register → ℕ → ℕ
+valueReason g r v =
+    unless (eqb (bitAnd v (r .clear)) 0) bitSet (unless (r .values v) badValue (unless (reaches g (r .holds v)) notGranted success))
+
+-- a value for a register that the table has, or for none
+abbrev pub foundReason : Terms → ℕ → Found → ℕ → ℕ
+foundReason g none (At c) v = valueReason g (registerAt c) v
+foundReason g none Missing v = none
+
+-- of a word of a packet's body; a header refuses a run that leaves the video registers, so 4 comes to no word of a run
+unfoldable pub wordReason : Terms → Kind → ℕ → ℕ
+wordReason g Setting w = unless (allowed w) badSetting success
+wordReason g (Parameter s) w = foundReason g noRegister (named s w) (data24 w)
+wordReason g (Video o) w = foundReason g badCount (findVideo o) w
+
+-- of a word at its position
+unfoldable pub judge : Terms → Kind → ℕ → ℕ → ℕ
+judge g kind zero w = headerReason w
+judge g kind (suc k) w = wordReason g kind w
+
+-- ---- the whole batch
+
+-- one place on
+abbrev pub onward : Answer → Answer
+onward a = answer (a .reason) (suc (a .place))
+
+-- a word's reason, and the answer on the words after it
+abbrev pub follow : ℕ → Answer → Answer
+follow zero a = onward a
+follow (suc r) a = answer (suc r) 0
+
+-- "the batch ends inside a packet", or it does not
+abbrev pub ended : ℕ → Answer
+ended zero = answer success 0
+ended (suc k) = answer endsInside 0
+
+unfoldable pub run : Terms → Kind → ℕ → List ℕ → Answer
+run g kind k [] = ended k
+run g kind k (w ∷ ws) = follow (judge g kind k w) (run g (nextKind kind k w) (nextLeft k w) ws)
+
+unfoldable pub batchAnswer : Terms → List ℕ → Answer
+batchAnswer g ws = run g Setting 0 ws
+
+-- ---- the call: "Order: 13, 1, 2; then reader words from the front"
+
+unfoldable pub readAnswer : List ℕ → List ℕ → List ℕ → Answer
+readAnswer batch grants st =
+    provided (wellFormed st) badState (provided (grantsFine grants) badGrants (batchAnswer (termsOf grants) batch))
+
+-- the state after the call
+unfoldable pub readLeaves : List ℕ → List ℕ → List ℕ → List ℕ
+readLeaves batch grants st = settle (readAnswer batch grants st) (applyAll st (writesOf batch)) st

@@ -1,0 +1,98 @@
+-- 5. The register state, and what the packets of a batch write into it.
+-- Assumes nothing.
+use mathlib.Core.Path.{_≡_}
+use mathlib.Core.Bool.{Bool, true, false, _&&_}
+use mathlib.Core.List.{List, [], _∷_, _++_, map}
+use Prim.Native.Nat.{ℕ, _+_}
+use lib.Dec.{leb, eqb}
+use lib.ListN.{length, getD, set, replicate}
+use Rattle.laws.specs.Lists.{All, every, from, join}
+use Rattle.laws.specs.Tests.{implies}
+use Rattle.meaning.specs.declared.Cell.{Cell}
+use Rattle.meaning.specs.declared.VideoOffset.{VideoOffset}
+use Rattle.meaning.specs.declared.Found.{Found}
+use Rattle.meaning.specs.declared.Found.the-variants.{At, Missing}
+use Rattle.meaning.specs.Words.{Word, offset, videoOffset, following, data24}
+use Rattle.meaning.specs.Registers.{cells, cell, findVideo}
+use Rattle.meaning.specs.Grants.{Terms}
+use Rattle.meaning.specs.Batch.{offset3D, named, Cut}
+
+-- ---- states
+
+-- "A state is 202 words: 101 values, then 101 marks"
+abbrev pub stateWords : ℕ
+stateWords = 202
+
+abbrev pub valueAt : List ℕ → Cell → ℕ
+valueAt st c = getD st (c .0) 0
+
+abbrev pub markAt : List ℕ → Cell → ℕ
+markAt st c = getD st (cells + c .0) 0
+
+-- "each mark is 0 or 1 and an unmarked value is 0"
+unfoldable pub cellFormed : List ℕ → Cell → Bool
+cellFormed st c = leb (markAt st c) 1 && implies (eqb (markAt st c) 0) (eqb (valueAt st c) 0)
+
+unfoldable pub wellFormed : List ℕ → Bool
+wellFormed st = eqb (length st) stateWords && every (λ n. cellFormed st (cell n)) (from 0 cells)
+
+-- "Empty: all 0"
+unfoldable pub empty : List ℕ
+empty = replicate stateWords 0
+
+-- ---- writes
+
+pub record Write : Type 0 where
+  pub cell : Cell
+  pub value : ℕ
+
+-- a write sets the cell's value and marks it
+unfoldable pub apply : List ℕ → Write → List ℕ
+apply st w = set (set st (w .cell .0) (w .value)) (cells + w .cell .0) 1
+
+-- "its writes, taken one after another": "the last write holds"
+unfoldable pub applyAll : List ℕ → List Write → List ℕ
+applyAll st [] = st
+applyAll st (w ∷ ws) = applyAll (apply st w) ws
+
+-- ---- what a packet writes
+
+abbrev pub writeTo : Found → ℕ → List Write
+writeTo (At c) v = record { cell = c; value = v } ∷ []
+writeTo Missing v = []
+
+-- "A 3D value is the 24 data bits"
+unfoldable pub writes3D : ℕ → List ℕ → List Write
+writes3D s [] = []
+writes3D s (p ∷ ps) = writeTo (named s p) (data24 p) ++ writes3D s ps
+
+unfoldable pub writesRun : VideoOffset → List ℕ → List Write
+writesRun o [] = []
+writesRun o (v ∷ vs) = writeTo (findVideo o) v ++ writesRun (following o) vs
+
+-- of a packet's words after the header, by whether it is a 3D packet
+abbrev pub bodyWrites : Bool → VideoOffset → List ℕ → List Write
+bodyWrites true o [] = []
+bodyWrites true o (s ∷ ps) = writes3D s ps
+bodyWrites false o vs = writesRun o vs
+
+unfoldable pub packetWrites : List ℕ → List Write
+packetWrites [] = []
+packetWrites (h ∷ t) = bodyWrites (eqb (offset h) offset3D) (videoOffset h) t
+
+unfoldable pub allWrites : List (List ℕ) → List Write
+allWrites [] = []
+allWrites (p ∷ ps) = packetWrites p ++ allWrites ps
+
+-- ---- states that a batch reaches
+
+-- a permitted batch of 32-bit words that takes the empty state to st
+pub record Takes (g : Terms) (ws st : List ℕ) : Type 0 where
+  pub words : All Word ws
+  pub cut : Cut g ws
+  pub leaves : applyAll empty (allWrites (cut .packets)) ≡ st
+
+-- "each state that some batch reaches from empty"
+pub record Reached (g : Terms) (st : List ℕ) : Type 0 where
+  pub batch : List ℕ
+  pub takes : Takes g batch st
