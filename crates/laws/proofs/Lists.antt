@@ -2,7 +2,7 @@
 -- Assumes nothing.
 use mathlib.Core.Path.{_≡_, refl, sym, ap, subst, _∙_}
 use mathlib.Core.Logic.{_↔_, _⊎_, inl, inr}
-use mathlib.Core.Bool.{Bool, true, false, _&&_, _||_, Bool·beq}
+use mathlib.Core.Bool.{Bool, _&&_, _||_}
 use mathlib.Core.List.{List, [], _∷_, _++_}
 use Prim.Native.Nat.{ℕ, zero, suc, _+_, _≤_, _<_}
 use native.Mathlib.Omega.{arith}
@@ -13,14 +13,6 @@ use lib.Seq.{take-at, drop-at}
 use mir.Facts.{and-yes, yes-and, or-yes, eqb-yes}
 use Rattle.laws.specs.Lists.{All, every, some, join, from}
 use Rattle.laws.specs.Tests.{oneOf}
-
--- ---- tests
-
-pub beq-T : (a b : Bool) → T (Bool·beq a b) → T a ↔ T b
-beq-T true true t = (λ x. x, λ x. x)
-beq-T true false t = absurd t
-beq-T false true t = absurd t
-beq-T false false t = (λ x. x, λ x. x)
 
 -- ---- a property of each element
 
@@ -36,6 +28,10 @@ pub all-join {ℓ} : {A : Type ℓ} (P : A → Type 0) (ls : List (List A)) → 
 all-join P [] a = tt
 all-join P (l ∷ ls) a = all-append P l (join ls) (a .0) (all-join P ls (a .1))
 
+pub all-both {ℓ} : {A : Type ℓ} (P Q R : A → Type 0) → ((x : A) → P x → Q x → R x) → (xs : List A) → All P xs → All Q xs → All R xs
+all-both P Q R h [] a b = tt
+all-both P Q R h (x ∷ xs) a b = (h x (a .0) (b .0), all-both P Q R h xs (a .1) (b .1))
+
 -- ---- numbers in a row
 
 pub every-from : (f : ℕ → Bool) (i n : ℕ) → T (every f (from i n)) → (x : ℕ) → i ≤ x → x < i + n → T (f x)
@@ -44,3 +40,12 @@ every-from f i zero t x l h = absurd (omega arith)
 every-from f i (suc n) t x l h =
     let both = and-yes (f i) _ t in
     elim (ℕ-discrete x i) [ yes e ↦ subst (λ (y : ℕ). T (f y)) (sym e) (both .0) | no e ↦ every-from f (suc i) n (both .1) x (omega arith) (omega arith) ]
+
+-- ---- beginnings
+
+-- equally long beginnings of one list are equal, and so is what follows
+pub same-front {ℓ} : {A : Type ℓ} (a b x y : List A) → length a ≡ length b → a ++ x ≡ b ++ y → (a ≡ b) × (x ≡ y)
+same-front a b x y n e = (
+  sym (take-at a x (length b) n) ∙ ap (take (length b)) e ∙ take-at b y (length b) refl,
+  sym (drop-at a x (length b) n) ∙ ap (drop (length b)) e ∙ drop-at b y (length b) refl,
+)

@@ -11,7 +11,8 @@ use lib.ListN.{length, getD}
 use mir.Facts.{and-yes, eqb-yes, ltb-yes, yes-ltb}
 use Rattle.laws.specs.Lists.{All, every, some, from}
 use Rattle.laws.specs.Tests.{oneOf}
-use Rattle.laws.proofs.Lists.{every-from, beq-T}
+use Rattle.laws.proofs.Lists.{every-from}
+use Rattle.laws.proofs.Tests.{beq-iff}
 use Rattle.meaning.specs.Words.{count, offset, paraAdr, paraOS, paraType, paraSubType, subAddress, data24}
 use Rattle.meaning.specs.Registers.{formats, bytesAmong, bytesPerPixel, formatTable, sizes, location, formatByte, levels, filters, wraps, lowNot3, lowZero, targetGroup, stage, sample, groups, scaler, videoRows, find, findAmong, find3D, findVideo, registerAmong, registerAt}
 use Rattle.meaning.specs.Grants.{grantFine, grantsFine, covers, granted}
@@ -54,7 +55,7 @@ formats-39 = refl
 pub formats-exactly : (b : ℕ) → b < 256 → (0 < getD formatTable b 0) ↔ T (oneOf b formatBytes)
 unfolding right
 formats-exactly b l =
-    let same = beq-T (ltb 0 (getD formatTable b 0)) (oneOf b formatBytes) (and-yes (Bool·beq (ltb 0 (getD formatTable b 0)) _) _ (every-from right 0 256 tested b (omega arith) (omega arith)) .0) in
+    let same = beq-iff (ltb 0 (getD formatTable b 0)) (oneOf b formatBytes) (and-yes (Bool·beq (ltb 0 (getD formatTable b 0)) _) _ (every-from right 0 256 tested b (omega arith) (omega arith)) .0) in
     (λ p. same .0 (yes-ltb p), λ t. ltb-yes (same .1 t))
 
 -- the table's entries are the bytes per pixel that the permitted rows give

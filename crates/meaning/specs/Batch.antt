@@ -51,12 +51,12 @@ typeAllowed t u = eqb t 0x01 && eqb u 0x00 || eqb t 0x02 && (within 0x00 0x0F u 
 unfoldable pub allowed : ℕ → Bool
 allowed s = eqb (paraAdr s) 0 && (eqb (paraOS s) 0 && typeAllowed (paraType s) (paraSubType s))
 
--- a parameter under a setting
+-- the register that a parameter names under a setting
 abbrev pub named : ℕ → ℕ → Found
 named s p = find3D (paraType s) (paraSubType s) (subAddress p)
 
-abbrev pub Parameter : Terms → ℕ → ℕ → Type 0
-Parameter g s p = Stands g (named s p) (data24 p)
+abbrev pub ParameterStands : Terms → ℕ → ℕ → Type 0
+ParameterStands g s p = Stands g (named s p) (data24 p)
 
 -- a header h, a setting s and parameters
 pub record Packet3D (g : Terms) (h s : ℕ) (ps : List ℕ) : Type 0 where
@@ -65,7 +65,7 @@ pub record Packet3D (g : Terms) (h s : ℕ) (ps : List ℕ) : Type 0 where
   pub high : count h ≤ most3D
   pub whole : length (s ∷ ps) ≡ count h
   pub setting : T (allowed s)
-  pub parameters : All (Parameter g s) ps
+  pub parameters : All (ParameterStands g s) ps
 
 -- "the offset and each following offset of the run is a video register": words for a run from offset o on
 abbrev pub Run : Terms → VideoOffset → List ℕ → Type 0

@@ -11,4 +11,5 @@ pub mod Writer
 pub mod Text
 pub mod Lister
 pub mod Calls
+pub mod Reasons
 pub mod Cases

@@ -1,0 +1,174 @@
+-- Words that may stand at each position: where each scaler role has a granted address that its registers hold, there is one.
+-- Assumes nothing.
+use mathlib.Core.Path.{_≡_, refl, sym, ap, _∙_, subst, subst₂}
+use mathlib.Core.Logic.{_⊎_, inl, inr}
+use mathlib.Core.Bool.{Bool, true, false, _&&_, _||_, cond}
+use mathlib.Core.List.{List, [], _∷_, _++_}
+use Prim.Native.Nat.{ℕ, zero, suc, _+_, _*_, _/_, _%_, _≤_, _<_, _^_}
+use native.Mathlib.Omega.{arith}
+use lib.Dec.{T, leb, eqb, ltb, lit<}
+use lib.Bits.{bitAnd, and-block, and-comm, and-shifted, and-zero-l}
+use mir.Facts.{and-yes, or-yes, eqb-yes, yes-eqb, leb-yes, ltb-yes}
+use Rattle.laws.specs.Lists.{All, every, some, from}
+use Rattle.laws.specs.Tests.{within, oneOf}
+use Rattle.laws.proofs.Tests.{within-iff}
+use Rattle.laws.proofs.Lists.{all-append, all-both, every-from}
+use Rattle.meaning.specs.declared.Cell.{Cell}
+use Rattle.meaning.specs.declared.VideoOffset.{VideoOffset}
+use Rattle.meaning.specs.declared.Found.{Found}
+use Rattle.meaning.specs.declared.Found.the-variants.{At, Missing}
+use Rattle.meaning.specs.declared.Kind.the-variants.{Setting, Parameter, Video}
+use Rattle.meaning.specs.Words.{Word, bits, paraAdr, paraOS, paraType, paraSubType, subAddress, data24}
+use Rattle.meaning.specs.Registers.{any, scaled, noAddress, lowNot3, lowZero, sizes, levels, Register, Row, targetGroup, stage, sample, groups, scaler, videoRows, find, findAmong, find3D, findVideo, isFound, registerAmong, registerAt}
+use Rattle.meaning.specs.Grants.{Terms, granted}
+use Rattle.meaning.specs.Batch.{Fits, typeAllowed, allowed, Holdable, Longest}
+use Rattle.meaning.specs.Reader.{unless, valueReason, foundReason, wordReason}
+use Rattle.meaning.proofs.Verdicts.{fits-fine}
+use Rattle.meaning.proofs.Places.{Sample, Samples}
+
+-- ---- a setting, and a parameter under each: one test over the types and sub-types
+
+a-setting : (g : Terms) → Sample g Setting
+unfolding wordReason allowed paraAdr paraOS paraType paraSubType typeAllowed unless
+a-setting g = record { word = 0x10000; fits = lit< tt; taken = refl }
+
+-- a parameter that may stand under a type and sub-type: a register without an address, and 0
+candidate : ℕ → ℕ → ℕ
+candidate t u = cond (eqb t 0x01) 0x3F000000 (cond (leb u 0x0F) 0x50000000 0x30000000)
+
+fine : Terms → ℕ → ℕ → Bool
+fine g t u =
+    let p = candidate t u in
+    ltb p (2 ^ 32) && eqb (foundReason g 6 (find3D t u (subAddress p)) (data24 p)) 0
+
+tested : (g : Terms) → T (fine g 0x01 0x00) × T (every (fine g 0x02) (from 0x00 16)) × T (every (fine g 0x02) (from 0x20 16))
+unfolding fine candidate subAddress data24 find3D findAmong find groups targetGroup stage sample registerAt registerAmong scaler videoRows valueReason unless sizes levels every from
+tested g = (tt, tt, tt)
+
+fine-allowed : (g : Terms) (t u : ℕ) → T (typeAllowed t u) → T (fine g t u)
+unfolding typeAllowed
+fine-allowed g t u a =
+    elim (or-yes (eqb t 0x01 && eqb u 0x00) _ a) [
+      | inl b ↦
+          let c = and-yes (eqb t 0x01) _ b in
+          subst₂ (λ (x y : ℕ). T (fine g x y)) (sym (eqb-yes (c .0))) (sym (eqb-yes (c .1))) (tested g .0)
+      | inr b ↦
+          let c = and-yes (eqb t 0x02) _ b in
+          subst (λ (x : ℕ). T (fine g x u)) (sym (eqb-yes (c .0)))
+          (elim (or-yes (within 0x00 0x0F u) _ (c .1)) [
+            | inl d ↦ let e = within-iff 0x00 0x0F u .0 d in every-from (fine g 0x02) 0x00 16 (tested g .1) u (e .0) (omega arith)
+            | inr d ↦ let e = within-iff 0x20 0x2F u .0 d in every-from (fine g 0x02) 0x20 16 (tested g .2) u (e .0) (omega arith)
+          ])
+    ]
+
+a-parameter : (g : Terms) (s : ℕ) → T (allowed s) → Sample g (Parameter s)
+unfolding allowed fine wordReason
+a-parameter g s a =
+    let t = paraType s in
+    let u = paraSubType s in
+    let b = and-yes (eqb (paraOS s) 0) _ (and-yes (eqb (paraAdr s) 0) _ a .1) .1 in
+    let c = and-yes (ltb (candidate t u) (2 ^ 32)) _ (fine-allowed g t u b) in
+    record { word = candidate t u; fits = ltb-yes (c .0); taken = eqb-yes (c .1) }
+
+-- ---- a word for each video register
+
+record Holds (g : Terms) (r : Register) : Type 0 where
+  word : ℕ
+  small : Word word
+  fits : Fits g r word
+
+-- an address that the registers hold meets no mask that leaves bits 28:4 alone
+masked : (a m : ℕ) → a % 16 ≡ 0 → a < 2 ^ 29 → bits 28 4 m ≡ 0 → bitAnd a m ≡ 0
+masked a m e l z =
+    let split-a : a ≡ a / 16 * 2 ^ 4 + 0 = omega arith in
+    let split-m : m ≡ m / 2 ^ 29 * 2 ^ 25 * 2 ^ 4 + m % 16 = omega arith in
+    let none : bitAnd (a / 16) (m / 2 ^ 29 * 2 ^ 25) ≡ 0 = and-comm (a / 16) _ ∙ and-shifted (m / 2 ^ 29) 25 (a / 16) (omega arith) in
+    subst₂ (λ (x y : ℕ). bitAnd x y ≡ 0) (sym split-a) (sym split-m)
+    (and-block 4 (a / 16) (m / 2 ^ 29 * 2 ^ 25) 0 (m % 16) (lit< tt) (omega arith)
+    ∙ ap (λ (x : ℕ). x * 2 ^ 4 + bitAnd 0 (m % 16)) none ∙ and-zero-l (m % 16))
+
+held : (a : ℕ) → a % 16 ≡ 0 → a < 2 ^ 29 → bits 28 4 a * 16 ≡ a
+held a m l = omega arith
+
+an-address : (g : Terms) (role m : ℕ) → T (eqb (bits 28 4 m) 0) → Holdable g role → Holds g (record { clear = m; values = lowZero; holds = scaled role })
+unfolding lowZero
+an-address g role m z h =
+    let a : ℕ = h .place in
+    let low : bits 1 0 a ≡ 0 = omega (arith, h .multiple) in
+    record {
+      word = a;
+      small = omega (arith, h .small);
+      fits = record {
+        clear = masked a m (h .multiple) (h .small) (eqb-yes z);
+        value = yes-eqb low;
+        granted = rw (held a (h .multiple) (h .small)) (h .allows);
+      };
+    }
+
+-- 0 may stand where no address is held and the rule takes 0
+nothing-held : (g : Terms) (m : ℕ) (f : ℕ → Bool) → T (f 0) → Holds g (record { clear = m; values = f; holds = noAddress })
+nothing-held g m f t = record { word = 0; small = lit< tt; fits = record { clear = and-zero-l m; value = t; granted = tt } }
+
+scaler-rows : (g : Terms) (c o role : ℕ) → Holdable g role → All (λ r. Holds g (r .register)) (scaler c o role)
+unfolding scaler
+scaler-rows g c o role h = (
+  nothing-held g _ any tt,
+  (
+    nothing-held g _ any tt,
+    (
+      an-address g role _ tt h,
+      (an-address g role _ tt h, (nothing-held g _ any tt, (nothing-held g _ any tt, (an-address g role _ tt h, tt)))),
+    ),
+  ),
+)
+
+video-rows : (g : Terms) → Holdable g 2 → Holdable g 3 → All (λ r. Holds g (r .register)) videoRows
+unfolding videoRows lowNot3
+video-rows g h2 h3 = (
+  nothing-held g _ any tt,
+  (
+    nothing-held g _ any tt,
+    (
+      nothing-held g _ lowNot3 tt,
+      all-append (λ (r : Row VideoOffset). Holds g (r .register)) (scaler 87 0x2000 2) (scaler 94 0x3000 3) (scaler-rows g 87 0x2000 2 h2)
+      (scaler-rows g 94 0x3000 3 h3),
+    ),
+  ),
+)
+
+-- the register of a video row's cell is the row's
+video-registers : All (λ (r : Row VideoOffset). r .register ≡ registerAt (r .cell)) videoRows
+unfolding videoRows scaler registerAt registerAmong groups targetGroup stage sample from
+video-registers = (
+  refl,
+  (refl, (refl, (refl, (refl, (refl, (refl, (refl, (refl, (refl, (refl, (refl, (refl, (refl, (refl, (refl, (refl, tt)))))))))))))))),
+)
+
+-- what holds of each row's cell holds of the cell that is found
+abbrev pub Of : (Cell → Type 0) → Found → Type 0
+Of Q (At c) = Q c
+Of Q Missing = Unit {0}
+
+pub pick-of : (Q : Cell → Type 0) (b : Bool) (x y : Found) → Of Q x → Of Q y → Of Q (cond b x y)
+pick-of Q true x y p q = p
+pick-of Q false x y p q = q
+
+pub found-of : {Name : Type 0} (Q : Cell → Type 0) (is : Name → Bool) (rs : List (Row Name)) → All (λ r. Q (r .cell)) rs → Of Q (find is rs)
+unfolding find
+found-of Q is [] a = tt
+found-of Q is (r ∷ rs) a = pick-of Q (is (r .name)) (At (r .cell)) (find is rs) (a .0) (found-of Q is rs (a .1))
+
+word-of : (g : Terms) (f : Found) → T (isFound f) → Of (λ c. Holds g (registerAt c)) f → (w : ℕ) × Word w × (foundReason g 4 f w ≡ 0)
+word-of g (At c) t h = (h .word, h .small, fits-fine g (registerAt c) (h .word) .0 (h .fits))
+word-of g Missing t h = absurd t
+
+a-video-word : (g : Terms) → Holdable g 2 → Holdable g 3 → (o : VideoOffset) → T (isFound (findVideo o)) → Sample g (Video o)
+unfolding wordReason findVideo
+a-video-word g h2 h3 o t =
+    let rows = all-both (λ (r : Row VideoOffset). Holds g (r .register)) (λ (r : Row VideoOffset). r .register ≡ registerAt (r .cell))
+        (λ (r : Row VideoOffset). Holds g (registerAt (r .cell))) (λ r h e. subst (Holds g) e h) videoRows (video-rows g h2 h3) video-registers in
+    let w = word-of g (findVideo o) t (found-of (λ (c : Cell). Holds g (registerAt c)) _ videoRows rows) in
+    record { word = w .0; fits = w .1; taken = w .2 }
+
+pub samples-of : (g : Terms) → Holdable g 2 → Holdable g 3 → Samples g
+samples-of g h2 h3 = record { a-setting = a-setting g; a-parameter = a-parameter g; a-video-word = a-video-word g h2 h3 }
