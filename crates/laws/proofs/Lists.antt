@@ -8,7 +8,7 @@ use Prim.Native.Nat.{ℕ, zero, suc, _+_, _≤_, _<_}
 use native.Mathlib.Omega.{arith}
 use native.Mathlib.Decide.{ℕ-discrete}
 use lib.Dec.{T, eqb}
-use lib.ListN.{length, take, drop, getD}
+use lib.ListN.{length, take, drop, getD, length-append}
 use lib.Seq.{take-at, drop-at}
 use mir.Facts.{and-yes, yes-and, or-yes, eqb-yes}
 use Rattle.laws.specs.Lists.{All, every, some, join, from}
@@ -28,6 +28,10 @@ pub all-join {ℓ} : {A : Type ℓ} (P : A → Type 0) (ls : List (List A)) → 
 all-join P [] a = tt
 all-join P (l ∷ ls) a = all-append P l (join ls) (a .0) (all-join P ls (a .1))
 
+pub all-map {ℓ} : {A : Type ℓ} (P Q : A → Type 0) → ((x : A) → P x → Q x) → (xs : List A) → All P xs → All Q xs
+all-map P Q h [] a = tt
+all-map P Q h (x ∷ xs) a = (h x (a .0), all-map P Q h xs (a .1))
+
 pub all-both {ℓ} : {A : Type ℓ} (P Q R : A → Type 0) → ((x : A) → P x → Q x → R x) → (xs : List A) → All P xs → All Q xs → All R xs
 all-both P Q R h [] a b = tt
 all-both P Q R h (x ∷ xs) a b = (h x (a .0) (b .0), all-both P Q R h xs (a .1) (b .1))
@@ -41,6 +45,11 @@ every-from f i (suc n) t x l h =
     let both = and-yes (f i) _ t in
     elim (ℕ-discrete x i) [ yes e ↦ subst (λ (y : ℕ). T (f y)) (sym e) (both .0) | no e ↦ every-from f (suc i) n (both .1) x (omega arith) (omega arith) ]
 
+pub from-every : (f : ℕ → Bool) (i n : ℕ) → ((x : ℕ) → i ≤ x → x < i + n → T (f x)) → T (every f (from i n))
+unfolding every from
+from-every f i zero h = tt
+from-every f i (suc n) h = yes-and (f i) _ (h i (omega arith) (omega arith)) (from-every f (suc i) n (λ x l k. h x (omega arith) (omega arith)))
+
 -- ---- beginnings
 
 -- equally long beginnings of one list are equal, and so is what follows
@@ -49,3 +58,9 @@ same-front a b x y n e = (
   sym (take-at a x (length b) n) ∙ ap (take (length b)) e ∙ take-at b y (length b) refl,
   sym (drop-at a x (length b) n) ∙ ap (drop (length b)) e ∙ drop-at b y (length b) refl,
 )
+
+-- ---- lengths
+
+pub length-join-append {ℓ} : {A : Type ℓ} (ls ms : List (List A)) → length (join (ls ++ ms)) ≡ length (join ls) + length (join ms)
+length-join-append [] ms = omega arith
+length-join-append (l ∷ ls) ms = length-append l (join (ls ++ ms)) ∙ omega (arith, length-join-append ls ms, length-append l (join ls))

@@ -5,3 +5,7 @@ pub mod Cuts
 pub mod Reading
 pub mod Places
 pub mod Samples
+pub mod Writes
+pub mod Table
+pub mod Writing
+pub mod States
