@@ -1,5 +1,6 @@
 -- Facts on tests.
 -- Assumes nothing.
+use mathlib.Core.Path.{_≡_, refl}
 use mathlib.Core.Logic.{_↔_}
 use mathlib.Core.Bool.{Bool, true, false, Bool·beq}
 use Prim.Native.Nat.{ℕ, _≤_}
@@ -22,3 +23,18 @@ beq-iff true true t = (λ x. x, λ x. x)
 beq-iff true false t = absurd t
 beq-iff false true t = absurd t
 beq-iff false false t = (λ x. x, λ x. x)
+
+-- what a test comes to, from what it tells
+pub true-of : (b : Bool) → T b → b ≡ true
+true-of true t = refl
+true-of false t = absurd t
+
+pub false-of : (b : Bool) → ¬ T b → b ≡ false
+false-of true n = absurd (n tt)
+false-of false n = refl
+
+pub holds-of : {b : Bool} → b ≡ true → T b
+holds-of e = rw e tt
+
+pub fails-of : {b : Bool} → b ≡ false → ¬ T b
+fails-of e t = rw e at t

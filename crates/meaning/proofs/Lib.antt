@@ -9,3 +9,5 @@ pub mod Writes
 pub mod Table
 pub mod Writing
 pub mod States
+pub mod Round
+pub mod Exactly
