@@ -3,7 +3,7 @@
 use mathlib.Core.Path.{_≡_, refl, sym, ap, subst, _∙_}
 use mathlib.Core.Logic.{_↔_, _⊎_, inl, inr}
 use mathlib.Core.Bool.{Bool, _&&_, _||_}
-use mathlib.Core.List.{List, [], _∷_, _++_}
+use mathlib.Core.List.{List, [], _∷_, _++_, List·Memᴰ, List·Memᴰ·head, List·Memᴰ·tail, List·Memᴰ·not-nil, List·Memᴰ·cases-cons}
 use Prim.Native.Nat.{ℕ, zero, suc, _+_, _≤_, _<_}
 use native.Mathlib.Omega.{arith}
 use native.Mathlib.Decide.{ℕ-discrete}
@@ -13,6 +13,7 @@ use lib.Seq.{take-at, drop-at}
 use mir.Facts.{and-yes, yes-and, or-yes, eqb-yes}
 use Rattle.laws.specs.Lists.{All, every, some, join, from}
 use Rattle.laws.specs.Tests.{oneOf}
+use Rattle.laws.proofs.Tests.{or-left, or-right}
 
 -- ---- a property of each element
 
@@ -27,6 +28,10 @@ all-split P (x ∷ xs) ys a = let r = all-split P xs ys (a .1) in ((a .0, r .0),
 pub all-join {ℓ} : {A : Type ℓ} (P : A → Type 0) (ls : List (List A)) → All (All P) ls → All P (join ls)
 all-join P [] a = tt
 all-join P (l ∷ ls) a = all-append P l (join ls) (a .0) (all-join P ls (a .1))
+
+pub all-unit {ℓ} : {A : Type ℓ} (xs : List A) → All (λ x. Unit {0}) xs
+all-unit [] = tt
+all-unit (x ∷ xs) = (tt, all-unit xs)
 
 pub all-map {ℓ} : {A : Type ℓ} (P Q : A → Type 0) → ((x : A) → P x → Q x) → (xs : List A) → All P xs → All Q xs
 all-map P Q h [] a = tt
@@ -64,3 +69,17 @@ same-front a b x y n e = (
 pub length-join-append {ℓ} : {A : Type ℓ} (ls ms : List (List A)) → length (join (ls ++ ms)) ≡ length (join ls) + length (join ms)
 length-join-append [] ms = omega arith
 length-join-append (l ∷ ls) ms = length-append l (join (ls ++ ms)) ∙ omega (arith, length-join-append ls ms, length-append l (join ls))
+
+-- ---- some element
+
+pub some-iff {ℓ} : {A : Type ℓ} (f : A → Bool) (xs : List A) → T (some f xs) ↔ ((x : A) × List·Memᴰ x xs × T (f x))
+unfolding some
+some-iff f [] = (λ t. absurd t, λ p. List·Memᴰ·not-nil (p .1))
+some-iff f (x ∷ xs) =
+    let more = some-iff f xs in (
+      λ t. elim (or-yes (f x) _ t) [ inl h ↦ (x, List·Memᴰ·head refl, h) | inr h ↦ let s = more .0 h in (s .0, List·Memᴰ·tail (s .1), s .2) ],
+      λ p. elim (List·Memᴰ·cases-cons (p .1)) [
+        | inl e ↦ or-left (f x) (some f xs) (subst (λ y. T (f y)) e (p .2))
+        | inr m ↦ or-right (f x) (some f xs) (more .1 (p .0, m, p .2))
+      ],
+    )

@@ -2,7 +2,7 @@
 -- Assumes nothing.
 use mathlib.Core.Path.{_≡_, refl}
 use mathlib.Core.Logic.{_↔_}
-use mathlib.Core.Bool.{Bool, true, false, Bool·beq}
+use mathlib.Core.Bool.{Bool, true, false, _||_, Bool·beq}
 use Prim.Native.Nat.{ℕ, _≤_}
 use lib.Dec.{T, leb}
 use mir.Facts.{and-yes, yes-and, leb-yes, yes-leb}
@@ -38,3 +38,11 @@ holds-of e = rw e tt
 
 pub fails-of : {b : Bool} → b ≡ false → ¬ T b
 fails-of e t = rw e at t
+
+pub or-left : (a b : Bool) → T a → T (a || b)
+or-left true b t = tt
+or-left false b t = absurd t
+
+pub or-right : (a b : Bool) → T b → T (a || b)
+or-right true b t = tt
+or-right false b t = t

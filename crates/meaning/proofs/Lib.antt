@@ -9,5 +9,8 @@ pub mod Writes
 pub mod Table
 pub mod Writing
 pub mod States
+pub mod Stored
 pub mod Round
 pub mod Exactly
+pub mod Memory
+pub mod Outputs

@@ -127,7 +127,7 @@ abbrev GoodPacket : Terms → List ℕ → Type 0
 GoodPacket g p = Packet g p × All Word p
 
 -- the number of rows in groups
-rowsIn : List Group → ℕ
+unfoldable pub rowsIn : List Group → ℕ
 rowsIn [] = 0
 rowsIn (G ∷ Gs) = length (G .rows) + rowsIn Gs
 
@@ -260,11 +260,11 @@ module _ (g : Terms) (st : List ℕ) (ok : AllFine g st) where
 
 -- ---- the whole state
 
-rows-84 : rowsIn groups ≡ 84
+pub rows-84 : rowsIn groups ≡ 84
 unfolding rowsIn groups targetGroup stage sample from
 rows-84 = refl
 
-rows-17 : length videoRows ≡ 17
+pub rows-17 : length videoRows ≡ 17
 unfolding videoRows scaler
 rows-17 = refl
 

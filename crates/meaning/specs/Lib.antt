@@ -12,4 +12,5 @@ pub mod Text
 pub mod Lister
 pub mod Calls
 pub mod Reasons
+pub mod Memory
 pub mod Cases

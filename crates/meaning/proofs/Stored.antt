@@ -1,0 +1,96 @@
+-- What permitted packets store: one law for any property of their writes.
+-- Assumes nothing.
+use mathlib.Core.Bool.{_&&_}
+use mathlib.Core.List.{List, [], _∷_, _++_}
+use Prim.Native.Nat.{ℕ, suc, _+_, _≤_, _<_, _^_}
+use native.Mathlib.Omega.{arith}
+use lib.Dec.{eqb}
+use lib.ListN.{length}
+use Rattle.laws.specs.Lists.{All, join}
+use Rattle.laws.proofs.Lists.{all-append, all-split}
+use Rattle.meaning.specs.declared.Cell.{Cell}
+use Rattle.meaning.specs.declared.SubAddress.{SubAddress}
+use Rattle.meaning.specs.declared.VideoOffset.{VideoOffset}
+use Rattle.meaning.specs.declared.Found.{Found}
+use Rattle.meaning.specs.declared.Found.the-variants.{At, Missing}
+use Rattle.meaning.specs.Words.{videoOffset, following, paraType, paraSubType, subAddress, data24}
+use Rattle.meaning.specs.Registers.{cells3D, cells, Row, Group, groups, videoRows, find, findAmong, find3D, findVideo, registerAt}
+use Rattle.meaning.specs.Grants.{Terms}
+use Rattle.meaning.specs.Batch.{Fits, Stands, named, ParameterStands, Run, Packet, packet3D, packetVideo}
+use Rattle.meaning.specs.State.{Write, writeTo, writes3D, writesRun, packetWrites, allWrites}
+use Rattle.meaning.proofs.Packets.{not-3D}
+use Rattle.meaning.proofs.Samples.{Of, pick-of, found-of}
+use Rattle.meaning.proofs.Table.{Row3D, RowVideo, Rows, Groups, table-3D, table-video}
+
+-- ---- where the cells lie
+
+rows-all : {Name : Type 0} (P : ℕ → Row Name → Type 0) (Q : Cell → Type 0) → ((i : ℕ) (r : Row Name) → P i r → Q (r .cell))
+    → (i : ℕ) (rs : List (Row Name)) → Rows P i rs → All (λ r. Q (r .cell)) rs
+rows-all P Q h i [] a = tt
+rows-all P Q h i (r ∷ rs) a = (h i r (a .0), rows-all P Q h (suc i) rs (a .1))
+
+abbrev pub Of3D : Cell → Type 0
+Of3D c = c .0 < cells3D
+
+abbrev pub OfVideo : Cell → Type 0
+OfVideo c = (cells3D ≤ c .0) × (c .0 < cells)
+
+found-among : (t u : ℕ) (a : SubAddress) (i : ℕ) (Gs : List Group) → Groups i Gs → Of Of3D (findAmong t u a Gs)
+unfolding findAmong
+found-among t u a i [] b = tt
+found-among t u a i (G ∷ Gs) b =
+    pick-of Of3D (eqb t (G .type) && eqb u (G .subType)) (find _ (G .rows)) _
+    (found-of Of3D _ (G .rows) (rows-all (Row3D (G .type) (G .subType)) Of3D (λ j r x. rw (x .numbered) (x .high)) i (G .rows) (b .0 .rows)))
+    (found-among t u a (i + length (G .rows)) Gs (b .1))
+
+found-3D : (t u : ℕ) (a : SubAddress) → Of Of3D (find3D t u a)
+unfolding find3D
+found-3D t u a = found-among t u a 0 groups table-3D
+
+found-video : (o : VideoOffset) → Of OfVideo (findVideo o)
+unfolding findVideo
+found-video o = found-of OfVideo _ videoRows (rows-all RowVideo OfVideo (λ j r x. rw (x .numbered) (x .low, x .high)) cells3D videoRows table-video)
+
+-- ---- the law
+
+data-small : (p : ℕ) → data24 p < 2 ^ 24
+unfolding data24
+data-small p = omega arith
+
+-- P of each write, from what is known of a 3D write, of a video write, and of each word of the packets (W)
+module _ (g : Terms) (P : Write → Type 0) (W : ℕ → Type 0)
+    (on-3D : (c : Cell) (v : ℕ) → Of3D c → v < 2 ^ 24 → Fits g (registerAt c) v → P (record { cell = c; value = v }))
+    (on-video : (c : Cell) (v : ℕ) → OfVideo c → W v → Fits g (registerAt c) v → P (record { cell = c; value = v })) where
+  stored-3D : (f : Found) (v : ℕ) → Of Of3D f → v < 2 ^ 24 → Stands g f v → All P (writeTo f v)
+  stored-3D (At c) v l n s = (on-3D c v l n s, tt)
+  stored-3D Missing v l n s = tt
+
+  stored-video : (f : Found) (v : ℕ) → Of OfVideo f → W v → Stands g f v → All P (writeTo f v)
+  stored-video (At c) v l n s = (on-video c v l n s, tt)
+  stored-video Missing v l n s = tt
+
+  stored-parameters : (s : ℕ) (ps : List ℕ) → All (ParameterStands g s) ps → All P (writes3D s ps)
+  unfolding writes3D
+  stored-parameters s [] a = tt
+  stored-parameters s (p ∷ ps) a =
+      all-append P (writeTo (named s p) (data24 p)) (writes3D s ps)
+      (stored-3D (named s p) (data24 p) (found-3D (paraType s) (paraSubType s) (subAddress p)) (data-small p) (a .0)) (stored-parameters s ps (a .1))
+
+  stored-run : (o : VideoOffset) (vs : List ℕ) → All W vs → Run g o vs → All P (writesRun o vs)
+  unfolding writesRun
+  stored-run o [] w a = tt
+  stored-run o (v ∷ vs) w a =
+      all-append P (writeTo (findVideo o) v) (writesRun (following o) vs) (stored-video (findVideo o) v (found-video o) (w .0) (a .0))
+      (stored-run (following o) vs (w .1) (a .1))
+
+  stored-packet : {p : List ℕ} → Packet g p → All W p → All P (packetWrites p)
+  unfolding packetWrites
+  stored-packet (packet3D {h} {s} {ps} c) w = rw (c .bound) (stored-parameters s ps (c .parameters))
+  stored-packet (packetVideo {h} {vs} c) w = rw (not-3D g h vs c) (stored-run (videoOffset h) vs (w .1) (c .run))
+
+  pub stored : (ps : List (List ℕ)) → All (Packet g) ps → All W (join ps) → All P (allWrites ps)
+  unfolding allWrites
+  stored [] a w = tt
+  stored (p ∷ ps) a w =
+      let r = all-split W p (join ps) w in
+      all-append P (packetWrites p) (allWrites ps) (stored-packet (a .0) (r .0)) (stored ps (a .1) (r .1))
