@@ -25,7 +25,7 @@ use Rattle.meaning.specs.declared.Answer.{Answer}
 use Rattle.meaning.specs.Words.{count, offset, videoOffset, following, data24}
 use Rattle.meaning.specs.Registers.{isFound, findVideo, Register, registerAt}
 use Rattle.meaning.specs.Grants.{Terms, termsOf, grantsFine}
-use Rattle.meaning.specs.Batch.{reaches, offset3D, most3D, allowed, named}
+use Rattle.meaning.specs.Batch.{reaches, offset3D, most3D, allowed, named, Cut}
 use Rattle.meaning.specs.State.{wellFormed}
 use Rattle.meaning.specs.Positions.{Position, kindOf, nextKind, nextLeft, positionFrom, positionAt, goes, carries}
 use Rattle.meaning.specs.Answers.{answer, provided}
@@ -33,6 +33,7 @@ use Rattle.meaning.specs.Reader.{unless, runIn, reason3D, reasonVideo, h
 use Rattle.meaning.specs.Reasons.{VideoRegister, VideoRun, Given, bad-offset, bad-count, bad-run, bad-setting, no-register, bit-set, bad-value, not-granted, GivenAt, NoneBefore, Reads}
 use Rattle.meaning.specs.Reasons.Reads.{bad-state, bad-grants, at-word, ends-inside, accepted}
 use Rattle.meaning.proofs.Packets.{never-both}
+use Rattle.meaning.proofs.Reading.{batch-permitted}
 use Rattle.meaning.proofs.Places.{Good, good-next}
 
 -- ---- tests
@@ -140,16 +141,16 @@ module _ (g : Terms) where
   given-judge (bad-offset {kind} {h} o v) = rw (ne-eqb (offset h) offset3D o, false-of (isFound (findVideo (videoOffset h))) v)
   given-judge (bad-count {kind} {h} o c) =
       let no : within 2 most3D (count h) ≡ false =
-          false-of (within 2 most3D (count h))
-          (λ t. let p = within-iff 2 most3D (count h) .0 t in elim c [ inl l ↦ omega (arith, p) | inr l ↦ omega (arith, p) ]) in
+      false-of (within 2 most3D (count h))
+      (λ t. let p = within-iff 2 most3D (count h) .0 t in elim c [ inl l ↦ omega (arith, p) | inr l ↦ omega (arith, p) ]) in
       rw (o, no)
   given-judge (bad-run {kind} {h} v c) =
       let no : (leb 1 (count h) && runIn (videoOffset h) (count h)) ≡ false =
-          false-of (leb 1 (count h) && runIn (videoOffset h) (count h))
-          (λ t.
-              let p = and-yes (leb 1 (count h)) _ t in
-              let q : 1 ≤ count h = leb-yes (p .0) in
-              elim c [ inl l ↦ omega arith | inr n ↦ n (run-iff (videoOffset h) (count h) .0 (p .1)) ]) in
+      false-of (leb 1 (count h) && runIn (videoOffset h) (count h))
+      (λ t.
+      let p = and-yes (leb 1 (count h)) _ t in
+      let q : 1 ≤ count h = leb-yes (p .0) in
+      elim c [ inl l ↦ omega arith | inr n ↦ n (run-iff (videoOffset h) (count h) .0 (p .1)) ]) in
       rw (never-both (offset h) v, true-of (isFound (findVideo (videoOffset h))) v, no)
   given-judge (bad-setting {k} {s} n) = rw (false-of (allowed s) n)
   given-judge (no-register {k} {s} {w} e) = rw e
@@ -242,7 +243,7 @@ module _ (g : Terms) where
   none-clean ws (suc n) l b =
       let c = none-clean ws n (omega arith) (λ i h. b i (omega arith)) in
       let last = zero-unless (judgeAt g Setting 0 ws n)
-          (λ r e. b n (omega arith) (suc r) (judge-given g _ _ _ r (good-at Setting 0 ws n tt (omega arith) c) e)) in
+      (λ r e. b n (omega arith) (suc r) (judge-given g _ _ _ r (good-at Setting 0 ws n tt (omega arith) c) e)) in
       λ i h. elim (ℕ-discrete i n) [ yes z ↦ rw z last | no z ↦ c i (omega arith) ]
 
   clean-none : (ws : List ℕ) (n : ℕ) → Clean g Setting 0 ws n → NoneBefore g ws n
@@ -295,3 +296,23 @@ module _ (batch grants st : List ℕ) where
   read-answer (accepted s l b q) =
       read-batch s l ∙ run-ends g Setting 0 batch (none-clean g batch (length batch) (omega arith) b)
       ∙ ap (λ (n : ℕ). answer (ended n .reason) (length batch)) q
+
+  -- what an accepted batch was judged by
+  pub accepted-parts : {r p : ℕ} → Reads batch grants st r p → r ≡ 0 → T (wellFormed st) × T (grantsFine grants)
+  accepted-parts (bad-state n) e = absurd (omega arith)
+  accepted-parts (bad-grants s n) e = absurd (omega arith)
+  accepted-parts (at-word s l h b v) e = (s, l)
+  accepted-parts (ends-inside s l b q) e = (s, l)
+  accepted-parts (accepted s l b q) e = (s, l)
+
+  pub read-range : {r p : ℕ} → Reads batch grants st r p → r ≤ 10
+  read-range (bad-state n) = omega arith
+  read-range (bad-grants s n) = omega arith
+  read-range (at-word s l h b v) = omega (arith, given-range g v .1)
+  read-range (ends-inside s l b q) = omega arith
+  read-range (accepted s l b q) = omega arith
+
+  pub accepted-cut : readAnswer batch grants st .reason ≡ 0 → Cut g batch
+  accepted-cut e =
+      let w = accepted-parts read-told e in
+      batch-permitted g batch .0 (rw (read-batch (w .0) (w .1)) at e)

@@ -14,3 +14,5 @@ pub mod Round
 pub mod Exactly
 pub mod Memory
 pub mod Outputs
+pub mod Bytes
+pub mod Promises

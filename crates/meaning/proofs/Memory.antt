@@ -13,7 +13,7 @@ use Rattle.laws.proofs.Lists.{all-unit, some-iff}
 use Rattle.meaning.specs.Registers.{Held, nothing, address, registerAt}
 use Rattle.meaning.specs.Grants.{Grant, covers, granted, Terms}
 use Rattle.meaning.specs.Batch.{reaches, Packet}
-use Rattle.meaning.specs.State.{allWrites}
+use Rattle.meaning.specs.State.{Write, allWrites}
 use Rattle.meaning.specs.Memory.{Admits, Touches, Contains, Inside, Apart, Harmless, OfAddress, Stores}
 use Rattle.meaning.proofs.Stored.{stored}
 
@@ -51,6 +51,15 @@ packets-inside g ps a =
 
 -- ---- two programs
 
-pub harmless : (ours theirs : List Grant) → Apart ours theirs → (role a : ℕ) → Harmless ours theirs role a
+harmless : (ours theirs : List Grant) → Apart ours theirs → (role a : ℕ) → Harmless ours theirs role a
 harmless ours theirs apart role a x y mine admits other b t =
     apart x y mine other b (omega (arith, admits .from, t), omega (arith, admits .to, t))
+
+of-any : (P : ℕ → ℕ → Type 0) → ((role a : ℕ) → P role a) → (h : Held) → OfAddress P h
+of-any P p nothing = tt
+of-any P p (address role a) = p role a
+
+pub all-harmless : (ours theirs : List Grant) → Apart ours theirs → (ws : List Write) → All (Stores (Harmless ours theirs)) ws
+all-harmless ours theirs apart [] = tt
+all-harmless ours theirs apart (w ∷ ws) =
+    (of-any (Harmless ours theirs) (harmless ours theirs apart) (registerAt (w .cell) .holds (w .value)), all-harmless ours theirs apart ws)

@@ -76,6 +76,13 @@ module _ (st grants : List ℕ) (room : ℕ) where
   write-answer (Writes.done s h fine l) =
       rw (true-of (wellFormed st) s, true-of (grantsFine grants) h, lowest-none (lowestBad g st 0 cells) (lowest-told g st 0 cells) fine, le-leb need room l)
 
+  pub write-range : {r p : ℕ} → Writes st grants room r p → r ≤ 12
+  write-range (Writes.bad-state n) = omega arith
+  write-range (Writes.bad-grants s n) = omega arith
+  write-range (Writes.not-writable s h l bad before) = omega arith
+  write-range (Writes.no-room s h fine l) = omega arith
+  write-range (Writes.done s h fine l) = omega arith
+
 -- ---- the lister
 
 module _ (st : List ℕ) (room : ℕ) where
@@ -95,6 +102,11 @@ module _ (st : List ℕ) (room : ℕ) where
   list-answer (Lists.no-room s l) = rw (true-of (wellFormed st) s, lt-leb (length (listing st)) room l)
   list-answer (Lists.done s l) = rw (true-of (wellFormed st) s, le-leb (length (listing st)) room l)
 
+  pub list-range : {r p : ℕ} → Lists st room r p → r ≤ 11
+  list-range (Lists.bad-state n) = omega arith
+  list-range (Lists.no-room s l) = omega arith
+  list-range (Lists.done s l) = omega arith
+
 -- ---- "at most 2,568 bytes"
 
 length-3D : (t u : ℕ) (a : SubAddress) (v : ℕ) → length (line3D t u a v) ≡ 26
@@ -110,15 +122,23 @@ length-lines : {Name : Type 0} (line : Name → ℕ → List ℕ) (n : ℕ) → 
 unfolding linesOf
 length-lines line n h st [] = omega arith
 length-lines line n h st (r ∷ rs) =
-    omega (arith, marked-join (markAt st (r .cell)) (line (r .name) (valueAt st (r .cell))) (linesOf line st rs), h (r .name) (valueAt st (r .cell)),
-    length-lines line n h st rs)
+    omega (
+      arith,
+      marked-join (markAt st (r .cell)) (line (r .name) (valueAt st (r .cell))) (linesOf line st rs),
+      h (r .name) (valueAt st (r .cell)),
+      length-lines line n h st rs,
+    )
 
 length-groups : (st : List ℕ) (Gs : List Group) → length (join (lines3D st Gs)) ≤ 26 * rowsIn Gs
 unfolding lines3D rowsIn
 length-groups st [] = omega arith
 length-groups st (G ∷ Gs) =
-    omega (arith, length-join-append (linesOf (line3D (G .type) (G .subType)) st (G .rows)) (lines3D st Gs),
-    length-lines (line3D (G .type) (G .subType)) 26 (length-3D (G .type) (G .subType)) st (G .rows), length-groups st Gs)
+    omega (
+      arith,
+      length-join-append (linesOf (line3D (G .type) (G .subType)) st (G .rows)) (lines3D st Gs),
+      length-lines (line3D (G .type) (G .subType)) 26 (length-3D (G .type) (G .subType)) st (G .rows),
+      length-groups st Gs,
+    )
 
 decimal-cases : (b c : Bool) (x y z : List ℕ) → length x ≤ 3 → length y ≤ 3 → length z ≤ 3 → length (cond b x (cond c y z)) ≤ 3
 decimal-cases true c x y z p q r = p
@@ -132,5 +152,13 @@ length-decimal n = decimal-cases (ltb n 10) (ltb n 100) _ _ _ (omega arith) (ome
 pub at-most-2568 : (st : List ℕ) → length (listing st) ≤ 2568
 unfolding listing cellLines
 at-most-2568 st =
-    omega (arith, length-append (decimal (length (cellLines st))) (ascii "\n" ++ join (cellLines st)), length-decimal (length (cellLines st)),
-    length-join-append (lines3D st groups) (linesOf lineVideo st videoRows), length-groups st groups, length-lines lineVideo 22 length-video st videoRows, rows-84, rows-17)
+    omega (
+      arith,
+      length-append (decimal (length (cellLines st))) (ascii "\n" ++ join (cellLines st)),
+      length-decimal (length (cellLines st)),
+      length-join-append (lines3D st groups) (linesOf lineVideo st videoRows),
+      length-groups st groups,
+      length-lines lineVideo 22 length-video st videoRows,
+      rows-84,
+      rows-17,
+    )

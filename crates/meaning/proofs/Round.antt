@@ -7,27 +7,33 @@ use mathlib.Core.Logic.{_↔_}
 use Prim.Native.Nat.{ℕ, zero, suc, _+_, _≤_, _<_, _^_}
 use native.Mathlib.Omega.{arith}
 use native.Mathlib.Decide.{ℕ-discrete}
+use borrow.Author.Tests.{eqb-true}
 use lib.Dec.{T, eqb, ltb}
 use mir.Facts.{and-yes, yes-and, ltb-yes, yes-ltb, eqb-yes, yes-eqb}
 use lib.ListN.{length}
 use Rattle.laws.specs.Lists.{All, join}
 use Rattle.laws.specs.Tests.{implies}
+use Rattle.laws.proofs.Lists.{all-unit}
 use Rattle.laws.proofs.Tests.{implies-iff}
 use Rattle.meaning.specs.declared.Cell.{Cell}
 use Rattle.meaning.specs.declared.Found.{Found}
 use Rattle.meaning.specs.declared.Found.the-variants.{At, Missing}
 use Rattle.meaning.specs.Words.{Word}
 use Rattle.meaning.specs.Registers.{cells, cell, registerAt}
-use Rattle.meaning.specs.Grants.{Terms}
+use Rattle.meaning.specs.declared.Answer.{Answer}
+use Rattle.meaning.specs.Grants.{Terms, termsOf}
 use Rattle.meaning.specs.Batch.{Packet, Cut}
 use Rattle.meaning.specs.State.{valueAt, markAt, empty, Write, applyAll, allWrites, Takes, Reached}
-use Rattle.meaning.specs.Reader.{valueReason}
+use Rattle.meaning.specs.Positions.{writesOf}
+use Rattle.meaning.specs.Reader.{valueReason, readAnswer, readLeaves}
 use Rattle.meaning.specs.Writer.{packetsOf, written, width, writable, lowestBad}
 use Rattle.meaning.specs.Reasons.{MayHold, CellFine}
 use Rattle.meaning.proofs.Verdicts.{fits-fine}
 use Rattle.meaning.proofs.Stored.{stored}
+use Rattle.meaning.proofs.Writes.{writes-of-cut}
+use Rattle.meaning.proofs.Exactly.{accepted-cut}
 use Rattle.meaning.proofs.Writing.{AllFine, width-3D, width-video, written-permitted, written-words, written-writes}
-use Rattle.meaning.proofs.States.{Formed, Sound, FineWrite, sound-writes, empty-sound, rebuilt}
+use Rattle.meaning.proofs.States.{Formed, Sound, FineWrite, sound-writes, formed-writes, empty-sound, rebuilt}
 
 -- ---- there and back
 
@@ -52,6 +58,23 @@ sound-takes g st s =
       cut = record { packets = packetsOf st; joined = refl; permitted = written-permitted g st (s .fine) };
       leaves = ap (applyAll empty) (written-writes g st (s .fine)) ∙ rebuilt st (s .formed);
     }
+
+-- ---- what the reader leaves of a well-formed state
+
+packets-low : (g : Terms) (ps : List (List ℕ)) → All (Packet g) ps → All (λ w. w .cell .0 < cells) (allWrites ps)
+packets-low g ps a = stored g (λ (w : Write). w .cell .0 < cells) (λ (w : ℕ). Unit {0}) (λ c v l n s. omega arith) (λ c v l n s. l .1) ps a (all-unit (join ps))
+
+left-formed : (batch st : List ℕ) (g : Terms) (a : Answer) → (a .reason ≡ 0 → Cut g batch) → (b : Bool) → eqb (a .reason) 0 ≡ b → Formed st
+    → Formed (cond b (applyAll st (writesOf batch)) st)
+left-formed batch st g a cut true e f =
+    let c = cut (eqb-true (a .reason) 0 e) in
+    rw (writes-of-cut g batch c) (formed-writes st (allWrites (c .packets)) (packets-low g (c .packets) (c .permitted)) f)
+left-formed batch st g a cut false e f = f
+
+pub leaves-formed : (batch grants st : List ℕ) → Formed st → Formed (readLeaves batch grants st)
+unfolding readLeaves
+leaves-formed batch grants st f =
+    left-formed batch st (termsOf grants) (readAnswer batch grants st) (accepted-cut batch grants st) (eqb (readAnswer batch grants st .reason) 0) refl f
 
 -- ---- the lowest cell that the writer refuses
 

@@ -131,7 +131,7 @@ video-rows g h2 h3 = (
     (
       nothing-held g _ lowNot3 tt,
       all-append (λ (r : Row VideoOffset). Holds g (r .register)) (scaler 87 0x2000 2) (scaler 94 0x3000 3) (scaler-rows g 87 0x2000 2 h2)
-      (scaler-rows g 94 0x3000 3 h3),
+          (scaler-rows g 94 0x3000 3 h3),
     ),
   ),
 )
@@ -166,7 +166,7 @@ a-video-word : (g : Terms) → Holdable g 2 → Holdable g 3 → (o : VideoOffse
 unfolding wordReason findVideo
 a-video-word g h2 h3 o t =
     let rows = all-both (λ (r : Row VideoOffset). Holds g (r .register)) (λ (r : Row VideoOffset). r .register ≡ registerAt (r .cell))
-        (λ (r : Row VideoOffset). Holds g (registerAt (r .cell))) (λ r h e. subst (Holds g) e h) videoRows (video-rows g h2 h3) video-registers in
+    (λ (r : Row VideoOffset). Holds g (registerAt (r .cell))) (λ r h e. subst (Holds g) e h) videoRows (video-rows g h2 h3) video-registers in
     let w = word-of g (findVideo o) t (found-of (λ (c : Cell). Holds g (registerAt c)) _ videoRows rows) in
     record { word = w .0; fits = w .1; taken = w .2 }
 

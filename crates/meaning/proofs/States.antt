@@ -1,7 +1,7 @@
 -- The writes of the marked cells take the empty state to a well-formed one, and a write of what a cell may hold keeps a state sound.
 -- Assumes nothing.
 use mathlib.Core.Path.{_≡_, refl, sym, subst, _∙_}
-use mathlib.Core.List.{List, [], _∷_}
+use mathlib.Core.List.{List, [], _∷_, _++_}
 use mathlib.Core.Logic.{_↔_, _≢_}
 use Prim.Native.Nat.{ℕ, zero, suc, _+_, _-_, _≤_, _<_}
 use native.Mathlib.Omega.{arith}
@@ -12,7 +12,7 @@ use lib.Seq.{getD-set-same, getD-set-other, ext-getD}
 use mir.Facts.{and-yes, yes-and, leb-yes, yes-leb, eqb-yes, yes-eqb}
 use Rattle.laws.specs.Lists.{All, every, from}
 use Rattle.laws.specs.Tests.{implies}
-use Rattle.laws.proofs.Lists.{every-from, from-every}
+use Rattle.laws.proofs.Lists.{every-from, from-every, all-split, all-both}
 use Rattle.laws.proofs.Tests.{implies-iff}
 use Rattle.meaning.specs.declared.Cell.{Cell}
 use Rattle.meaning.specs.Registers.{cells, cell}
@@ -214,3 +214,46 @@ empty-sound g =
       };
       fine = λ c l m. absurd (omega (arith, empty-at (cells + c) (omega arith)));
     }
+
+-- ---- what writes leave alone, and what they leave
+
+length-apply : (st : List ℕ) (w : Write) → length (apply st w) ≡ length st
+unfolding apply
+length-apply st w = simp length-set
+
+pub untouched : (i : ℕ) (st : List ℕ) (ws : List Write) → All (λ w. (i ≢ w .cell .0) × (i ≢ cells + w .cell .0)) ws
+    → getD (applyAll st ws) i 0 ≡ getD st i 0
+unfolding applyAll apply
+untouched i st [] a = refl
+untouched i st (w ∷ ws) a =
+    untouched i (apply st w) ws (a .1)
+    ∙ getD-set-other (set st (w .cell .0) (w .value)) (cells + w .cell .0) i 1 0 (a .0 .1)
+    ∙ getD-set-other st (w .cell .0) i (w .value) 0 (a .0 .0)
+
+pub applied-append : (st : List ℕ) (xs ys : List Write) → applyAll st (xs ++ ys) ≡ applyAll (applyAll st xs) ys
+unfolding applyAll
+applied-append st [] ys = refl
+applied-append st (x ∷ xs) ys = applied-append (apply st x) xs ys
+
+pub empty-well-formed : T (wellFormed empty)
+empty-well-formed = formed-iff empty .1 (empty-sound (record { grants = [] }) .formed)
+
+-- the last write to a cell
+pub last-holds : (st : List ℕ) → Formed st → (before : List Write) (w : Write) (later : List Write)
+    → All (λ x. x .cell .0 < cells) (before ++ w ∷ later) → All (λ x. x .cell .0 ≢ w .cell .0) later
+    → (valueAt (applyAll st (before ++ w ∷ later)) (w .cell) ≡ w .value) × (markAt (applyAll st (before ++ w ∷ later)) (w .cell) ≡ 1)
+unfolding applyAll apply
+last-holds st f before w later cs other =
+    let parts = all-split (λ (x : Write). x .cell .0 < cells) before (w ∷ later) cs in
+    let c = w .cell .0 in
+    let l : c < cells = parts .1 .0 in
+    let n : length (applyAll st before) ≡ stateWords = formed-writes st before (parts .0) f .size in
+    let now = apply (applyAll st before) w in
+    let low = all-both (λ (x : Write). x .cell .0 < cells) (λ (x : Write). x .cell .0 ≢ c) (λ (x : Write). (c ≢ x .cell .0) × (c ≢ cells + x .cell .0))
+    (λ x k ne. (λ e. ne (sym e), λ e. omega arith)) later (parts .1 .1) other in
+    let high = all-both (λ (x : Write). x .cell .0 < cells) (λ (x : Write). x .cell .0 ≢ c)
+    (λ (x : Write). (cells + c ≢ x .cell .0) × (cells + c ≢ cells + x .cell .0)) (λ x k ne. (λ e. omega arith, λ e. ne (omega arith))) later (parts .1 .1) other in
+    rw (applied-append st before (w ∷ later)) (
+      untouched c now later low ∙ value-same (applyAll st before) n c (w .value) l,
+      untouched (cells + c) now later high ∙ mark-same (applyAll st before) n c (w .value) l,
+    )

@@ -152,11 +152,11 @@ module _ (g : Terms) (st : List ℕ) (ok : AllFine g st) where
         rw (row .numbered)
         (marked-all (GoodParameter g (settingWord t u)) (markAt st (cell i)) _ (parameters st rs)
         (λ m.
-            let l = value-24 i (row .high) m in (
-              rw (parameter-named t u lt lu (r .name) (valueAt st (cell i)) (row .short) l, parameter-data (r .name .0) (valueAt st (cell i)) l, row .found)
+        let l = value-24 i (row .high) m in (
+          rw (parameter-named t u lt lu (r .name) (valueAt st (cell i)) (row .short) l, parameter-data (r .name .0) (valueAt st (cell i)) l, row .found)
               (ok i (omega (arith, row .high)) m .fits),
-              omega (arith, row .short),
-            ))
+          omega (arith, row .short),
+        ))
         (parameters-good (suc i) rs (a .1)))
 
     parameters-writes : (i : ℕ) (rs : List (Row SubAddress)) → Rows (Row3D t u) i rs
@@ -169,8 +169,8 @@ module _ (g : Terms) (st : List ℕ) (ok : AllFine g st) where
         (marked-map (writes3D (settingWord t u)) (λ (p : ℕ). writeTo (named (settingWord t u) p) (data24 p)) (λ x xs. refl) (markAt st (cell i))
         (r .name .0 * 2 ^ 24 + valueAt st (cell i)) (record { cell = cell i; value = valueAt st (cell i) }) (parameters st rs) (markedFrom st (suc i) (length rs))
         (λ m.
-            let l = value-24 i (row .high) m in
-            rw (parameter-named t u lt lu (r .name) (valueAt st (cell i)) (row .short) l, parameter-data (r .name .0) (valueAt st (cell i)) l, row .found))
+        let l = value-24 i (row .high) m in
+        rw (parameter-named t u lt lu (r .name) (valueAt st (cell i)) (row .short) l, parameter-data (r .name .0) (valueAt st (cell i)) l, row .found))
         (parameters-writes (suc i) rs (a .1)))
 
   -- ---- packets of groups

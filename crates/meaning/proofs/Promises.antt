@@ -1,0 +1,273 @@
+-- What the definitions promise, one statement for each promise, about whole answers: batch, grants and state are the words handed in.
+-- Assumes nothing.
+use mathlib.Core.Path.{_≡_, refl, sym, ap, _∙_, subst}
+use mathlib.Core.Logic.{_↔_, _≢_, _⊎_, inl, inr}
+use mathlib.Core.Bool.{_&&_}
+use mathlib.Core.List.{List, [], _∷_, _++_}
+use Prim.Native.Nat.{ℕ, _+_, _/_, _%_, _≤_, _<_}
+use native.Mathlib.Omega.{arith}
+use lib.Dec.{T}
+use lib.ListN.{length, take, drop, getD}
+use lib.Seq.{take-append-seam}
+use Rattle.laws.specs.Lists.{All, every, over}
+use Rattle.laws.proofs.Tests.{true-of}
+use Rattle.meaning.specs.declared.Cell.{Cell}
+use Rattle.meaning.specs.declared.Answer.{Answer}
+use Rattle.meaning.specs.Words.{Word, wordsOf}
+use Rattle.meaning.specs.Registers.{cells, cell, Held, nothing, address, registerAt}
+use Rattle.meaning.specs.Grants.{grantsOf, grantsFine, termsOf, Terms}
+use Rattle.meaning.specs.Batch.{Cut, Longest, Holdable}
+use Rattle.meaning.specs.State.{valueAt, markAt, wellFormed, empty, Write, applyAll, allWrites, Takes, Reached}
+use Rattle.meaning.specs.Answers.{answer, numberOf, settle}
+use Rattle.meaning.specs.Reader.{batchAnswer, readAnswer, readLeaves}
+use Rattle.meaning.specs.Writer.{written, writeAnswer, writeLeaves}
+use Rattle.meaning.specs.Lister.{listing, listAnswer, listLeaves}
+use Rattle.meaning.specs.Calls.{wordBufferFine, bufferFine, readCall, readCallLeaves, writeCall, writeCallLeaves, listCall, listCallLeaves}
+use Rattle.meaning.specs.Reasons.{CellFine, Reads, Writes, Lists}
+use Rattle.meaning.specs.Memory.{Inside, Apart, Harmless, OfAddress, Stores}
+use Rattle.meaning.proofs.Cuts.{cut-one-way}
+use Rattle.meaning.proofs.Reading.{batch-permitted, batch-length}
+use Rattle.meaning.proofs.Places.{refusal-longest}
+use Rattle.meaning.proofs.Samples.{samples-of}
+use Rattle.meaning.proofs.Writes.{writes-of-cut}
+use Rattle.meaning.proofs.Writing.{at-most-184, AllFine}
+use Rattle.meaning.proofs.States.{Formed, formed-iff, Sound, empty-well-formed, untouched, last-holds}
+use Rattle.meaning.proofs.Round.{reached-sound, sound-takes, leaves-formed}
+use Rattle.meaning.proofs.Exactly.{read-told, read-answer, read-batch, accepted-cut, read-range}
+use Rattle.meaning.proofs.Memory.{packets-inside, all-harmless}
+use Rattle.meaning.proofs.Outputs.{write-told, write-answer, write-range, list-told, list-answer, list-range, at-most-2568}
+use Rattle.meaning.proofs.Bytes.{provided-first, provided-then, settle-refused, settle-done}
+
+-- ==== Demand 3
+
+-- "a batch is accepted exactly when it is a row of whole permitted packets"; the place is then its length
+pub accepted-exactly : (batch grants st : List ℕ) → T (wellFormed st) → T (grantsFine grants)
+    → (readAnswer batch grants st ≡ answer 0 (length batch)) ↔ Cut (termsOf grants) batch
+accepted-exactly batch grants st s l =
+    let e = read-batch batch grants st s l in
+    let all = batch-permitted (termsOf grants) batch in (
+      λ a. all .0 (ap (λ (x : Answer). x .reason) (sym e ∙ a)),
+      λ c. e ∙ rw (all .1 c, batch-length (termsOf grants) batch (all .1 c)),
+    )
+
+-- "and it can be cut into them in one way only"
+pub one-cut : (g : Terms) (batch : List ℕ) (c d : Cut g batch) → c .packets ≡ d .packets
+one-cut g batch c d = cut-one-way c d
+
+-- "the place of a refusal is the length of the longest beginning of the batch with which some permitted batch starts"
+pub place-is-longest-beginning : (batch grants st : List ℕ) → T (wellFormed st) → T (grantsFine grants)
+    → Holdable (termsOf grants) 2 → Holdable (termsOf grants) 3
+    → readAnswer batch grants st .reason ≢ 0 → Longest (termsOf grants) batch (readAnswer batch grants st .place)
+place-is-longest-beginning batch grants st s l h2 h3 z =
+    rw (read-batch batch grants st s l)
+    (refusal-longest (termsOf grants) (samples-of (termsOf grants) h2 h3) batch (rw (read-batch batch grants st s l) at z))
+
+-- ==== "Each is given exactly then"
+
+-- the reader's reasons, 0 to 10
+pub read-reasons-exactly : (batch grants st : List ℕ) (r p : ℕ) → (readAnswer batch grants st ≡ answer r p) ↔ Reads batch grants st r p
+read-reasons-exactly batch grants st r p = (
+  λ e. subst (λ (a : Answer). Reads batch grants st (a .reason) (a .place)) e (read-told batch grants st),
+  read-answer batch grants st,
+)
+
+-- the writer's: 0, 1, 2, 11 and 12
+pub write-reasons-exactly : (st grants : List ℕ) (room r p : ℕ) → (writeAnswer st grants room ≡ answer r p) ↔ Writes st grants room r p
+write-reasons-exactly st grants room r p = (
+  λ e. subst (λ (a : Answer). Writes st grants room (a .reason) (a .place)) e (write-told st grants room),
+  write-answer st grants room,
+)
+
+-- the lister's: 0, 1 and 11
+pub list-reasons-exactly : (st : List ℕ) (room r p : ℕ) → (listAnswer st room ≡ answer r p) ↔ Lists st room r p
+list-reasons-exactly st room r p = (
+  λ e. subst (λ (a : Answer). Lists st room (a .reason) (a .place)) e (list-told st room),
+  list-answer st room,
+)
+
+-- ==== Demand 2
+
+-- "An accepted batch leaves the register state that its writes, taken one after another .. produce"
+pub state-is-its-writes : (batch grants st : List ℕ) → readAnswer batch grants st .reason ≡ 0
+    → (c : Cut (termsOf grants) batch) × (readLeaves batch grants st ≡ applyAll st (allWrites (c .packets)))
+unfolding readLeaves
+state-is-its-writes batch grants st e =
+    let c = accepted-cut batch grants st e in
+    (c, settle-done (readAnswer batch grants st) _ st e ∙ ap (applyAll st) (writes-of-cut (termsOf grants) batch c))
+
+-- "the last write holds", whatever comes before it and whatever other cells are written after it
+pub last-write-holds : (st : List ℕ) → T (wellFormed st) → (before : List Write) (w : Write) (later : List Write)
+    → All (λ x. x .cell .0 < cells) (before ++ w ∷ later) → All (λ x. x .cell .0 ≢ w .cell .0) later
+    → (valueAt (applyAll st (before ++ w ∷ later)) (w .cell) ≡ w .value) × (markAt (applyAll st (before ++ w ∷ later)) (w .cell) ≡ 1)
+last-write-holds st s before w later cs other = last-holds st (formed-iff st .0 s) before w later cs other
+
+-- and what no write names is as it was
+pub else-as-before : (st : List ℕ) (ws : List Write) (i : ℕ) → All (λ w. (i ≢ w .cell .0) × (i ≢ cells + w .cell .0)) ws
+    → getD (applyAll st ws) i 0 ≡ getD st i 0
+else-as-before st ws i a = untouched i st ws a
+
+-- a state that is well-formed stays so, accepted or refused
+pub stays-well-formed : (batch grants st : List ℕ) → T (wellFormed st) → T (wellFormed (readLeaves batch grants st))
+stays-well-formed batch grants st s = formed-iff (readLeaves batch grants st) .1 (leaves-formed batch grants st (formed-iff st .0 s))
+
+-- "state and output buffers stay as they were": any reason but 0, on words and on bytes
+pub refusal-changes-nothing : (a b c : List ℕ)
+    → (readAnswer a b c .reason ≢ 0 → readLeaves a b c ≡ c)
+    × (writeAnswer a b (length c) .reason ≢ 0 → writeLeaves a b c ≡ c)
+    × (listAnswer a (length c) .reason ≢ 0 → listLeaves a c ≡ c)
+    × (readCall a b c .reason ≢ 0 → readCallLeaves a b c ≡ c)
+    × (writeCall a b c .reason ≢ 0 → writeCallLeaves a b c ≡ c)
+    × (listCall a c .reason ≢ 0 → listCallLeaves a c ≡ c)
+unfolding readLeaves writeLeaves listLeaves readCallLeaves writeCallLeaves listCallLeaves
+refusal-changes-nothing a b c = (
+  settle-refused (readAnswer a b c) _ c,
+  settle-refused (writeAnswer a b (length c)) _ c,
+  settle-refused (listAnswer a (length c)) _ c,
+  settle-refused (readCall a b c) _ c,
+  settle-refused (writeCall a b c) _ c,
+  settle-refused (listCall a c) _ c,
+)
+
+-- ---- the writer
+
+-- the states that some batch reaches from empty: well-formed, and each marked cell holds what it may
+pub reached-exactly : (g : Terms) (st : List ℕ) → Reached g st ↔ (T (wellFormed st) × ((c : ℕ) → c < cells → CellFine g st (cell c)))
+reached-exactly g st = (
+  λ r. let s = reached-sound g st r in (formed-iff st .1 (s .formed), s .fine),
+  λ p. record { batch = written st; takes = sound-takes g st (record { formed = formed-iff st .0 (p .0); fine = p .1 }) },
+)
+
+-- what the writer left in the output, up to its place, is a batch of 32-bit words; what is past it is as it was; and read
+-- from the empty state under the same grants it is accepted and leaves the state
+pub record RoundTrip (st grants out : List ℕ) : Type 0 where
+  pub answered : writeAnswer st grants (length out) ≡ answer 0 (length (written st))
+  pub left : writeLeaves st grants out ≡ written st ++ drop (length (written st)) out
+  pub words : All Word (written st)
+  pub accepted : readAnswer (written st) grants empty ≡ answer 0 (length (written st))
+  pub back : readLeaves (written st) grants empty ≡ st
+
+-- "Given room, the writer turns each state that some batch reaches from empty into a batch doing so, under the same grants"
+pub writer-reaches : (st grants out : List ℕ) → T (grantsFine grants) → Reached (termsOf grants) st → length (written st) ≤ length out
+    → RoundTrip st grants out
+unfolding readLeaves writeLeaves
+writer-reaches st grants out l r room =
+    let parts = reached-exactly (termsOf grants) st .0 r in
+    let takes = sound-takes (termsOf grants) st (reached-sound (termsOf grants) st r) in
+    let wrote = write-answer st grants (length out) (Writes.done (parts .0) l (parts .1) room) in
+    let read = accepted-exactly (written st) grants empty empty-well-formed l .1 (takes .cut) in
+    record {
+      answered = wrote;
+      left = settle-done (writeAnswer st grants (length out)) _ out (rw wrote);
+      words = takes .words;
+      accepted = read;
+      back = settle-done (readAnswer (written st) grants empty) _ empty (rw read)
+          ∙ ap (applyAll empty) (writes-of-cut (termsOf grants) (written st) (takes .cut)) ∙ takes .leaves;
+    }
+
+-- "It needs at most 184 words"
+pub writer-needs-at-most-184 : (st : List ℕ) → length (written st) ≤ 184
+writer-needs-at-most-184 = at-most-184
+
+-- "and refuses all others": with 1, or with 12 at the lowest marked cell that holds what it may not
+pub record Declines (st grants : List ℕ) (room c : ℕ) : Type 0 where
+  pub answered : writeAnswer st grants room ≡ answer 12 c
+  pub low : c < cells
+  pub bad : ¬ CellFine (termsOf grants) st (cell c)
+  pub lowest : (d : ℕ) → d < c → CellFine (termsOf grants) st (cell d)
+
+pub writer-refuses-the-rest : (st grants : List ℕ) (room : ℕ) → T (grantsFine grants) → ¬ Reached (termsOf grants) st
+    → ((¬ T (wellFormed st)) × (writeAnswer st grants room ≡ answer 1 0)) ⊎ ((c : ℕ) × Declines st grants room c)
+writer-refuses-the-rest st grants room l n = rest (write-told st grants room) refl
+  where
+    rest : {r p : ℕ} → Writes st grants room r p → writeAnswer st grants room ≡ answer r p
+        → ((¬ T (wellFormed st)) × (writeAnswer st grants room ≡ answer 1 0)) ⊎ ((c : ℕ) × Declines st grants room c)
+    rest (Writes.bad-state s) e = inl (s, e)
+    rest (Writes.bad-grants s f) e = absurd (f l)
+    rest (Writes.not-writable {c} s f low bad before) e = inr (c, record { answered = e; low = low; bad = bad; lowest = before })
+    rest (Writes.no-room s f fine less) e = absurd (n (reached-exactly (termsOf grants) st .1 (s, fine)))
+    rest (Writes.done s f fine enough) e = absurd (n (reached-exactly (termsOf grants) st .1 (s, fine)))
+
+-- "11: output shorter than needed", of a state that is reached: exactly if the room is less
+pub writer-needs-its-room : (st grants : List ℕ) (room : ℕ) → T (grantsFine grants) → Reached (termsOf grants) st
+    → (writeAnswer st grants room ≡ answer 11 0) ↔ (room < length (written st))
+writer-needs-its-room st grants room l r =
+    let parts = reached-exactly (termsOf grants) st .0 r in (
+      λ e. less (write-reasons-exactly st grants room 11 0 .0 e) refl,
+      λ k. write-answer st grants room (Writes.no-room (parts .0) l (parts .1) k),
+    )
+  where
+    less : {x y : ℕ} → Writes st grants room x y → x ≡ 11 → room < length (written st)
+    less (Writes.bad-state s) e = absurd (omega arith)
+    less (Writes.bad-grants s f) e = absurd (omega arith)
+    less (Writes.not-writable s f low bad before) e = absurd (omega arith)
+    less (Writes.no-room s f fine k) e = k
+    less (Writes.done s f fine k) e = absurd (omega arith)
+
+-- ---- the lister
+
+pub record Listed (st out : List ℕ) : Type 0 where
+  pub answered : listAnswer st (length out) ≡ answer 0 (length (listing st))
+  pub left : listLeaves st out ≡ listing st ++ drop (length (listing st)) out
+
+-- "bytes past its end stay as they were"
+pub listing-is-exact : (st out : List ℕ) → T (wellFormed st) → length (listing st) ≤ length out → Listed st out
+unfolding listLeaves
+listing-is-exact st out s room =
+    let e = list-answer st (length out) (Lists.done s room) in
+    record { answered = e; left = settle-done (listAnswer st (length out)) _ out (rw e) }
+
+-- "at most 2,568 bytes"
+pub listing-at-most-2568 : (st : List ℕ) → length (listing st) ≤ 2568
+listing-at-most-2568 = at-most-2568
+
+-- ==== The fitter's question
+
+-- every address that an accepted batch writes lies, with its reach, inside one grant of its role
+pub nothing-outside-a-grant : (batch grants st : List ℕ) → readAnswer batch grants st .reason ≡ 0
+    → (c : Cut (termsOf grants) batch) × All (Stores (Inside (grantsOf grants))) (allWrites (c .packets))
+nothing-outside-a-grant batch grants st e =
+    let c = accepted-cut batch grants st e in
+    (c, packets-inside (termsOf grants) (c .packets) (c .permitted))
+
+-- where no memory granted to one program is granted to the other, no address accepted for the one touches, within its reach,
+-- anything granted to the other
+pub two-programs-apart : (batch ours theirs st : List ℕ) → Apart (grantsOf ours) (grantsOf theirs) → readAnswer batch ours st .reason ≡ 0
+    → (c : Cut (termsOf ours) batch) × All (Stores (Harmless (grantsOf ours) (grantsOf theirs))) (allWrites (c .packets))
+two-programs-apart batch ours theirs st apart e =
+    let c = accepted-cut batch ours st e in
+    (c, all-harmless (grantsOf ours) (grantsOf theirs) apart (allWrites (c .packets)))
+
+-- the reader's reason and place do not depend on what the registers hold
+pub answer-ignores-state : (batch grants st other : List ℕ) → T (wellFormed st) → T (wellFormed other)
+    → readAnswer batch grants st ≡ readAnswer batch grants other
+unfolding readAnswer
+answer-ignores-state batch grants st other s o = rw (true-of (wellFormed st) s, true-of (wellFormed other) o)
+
+-- ==== The calls on bytes
+
+-- "13: a buffer over 65,536 bytes, or a word buffer not a multiple of 4", before all others
+pub bad-buffer-exactly : (a b c : List ℕ)
+    → ((readCall a b c .reason ≡ 13) ↔ (¬ T (every wordBufferFine (a ∷ b ∷ c ∷ []))))
+    × ((writeCall a b c .reason ≡ 13) ↔ (¬ T (every wordBufferFine (a ∷ b ∷ c ∷ []))))
+    × ((listCall a c .reason ≡ 13) ↔ (¬ T (wordBufferFine a && bufferFine c)))
+unfolding readCall writeCall listCall
+bad-buffer-exactly a b c = (
+  provided-first (every wordBufferFine (a ∷ b ∷ c ∷ [])) 13 (readAnswer (wordsOf a) (wordsOf b) (wordsOf c))
+      (λ e. omega (arith, read-range (wordsOf a) (wordsOf b) (wordsOf c) (read-told (wordsOf a) (wordsOf b) (wordsOf c)))),
+  provided-first (every wordBufferFine (a ∷ b ∷ c ∷ [])) 13 (writeAnswer (wordsOf a) (wordsOf b) (length c / 4))
+      (λ e. omega (arith, write-range (wordsOf a) (wordsOf b) (length c / 4) (write-told (wordsOf a) (wordsOf b) (length c / 4)))),
+  provided-first (wordBufferFine a && bufferFine c) 13 (listAnswer (wordsOf a) (length c))
+      (λ e. omega (arith, list-range (wordsOf a) (length c) (list-told (wordsOf a) (length c)))),
+)
+
+-- and what 13 lets through is answered as the words are
+pub calls-are-the-words : (a b c : List ℕ)
+    → (T (every wordBufferFine (a ∷ b ∷ c ∷ [])) → readCall a b c ≡ readAnswer (wordsOf a) (wordsOf b) (wordsOf c))
+    × (T (every wordBufferFine (a ∷ b ∷ c ∷ [])) → writeCall a b c ≡ writeAnswer (wordsOf a) (wordsOf b) (length c / 4))
+    × (T (wordBufferFine a && bufferFine c) → listCall a c ≡ listAnswer (wordsOf a) (length c))
+unfolding readCall writeCall listCall
+calls-are-the-words a b c = (
+  provided-then (every wordBufferFine (a ∷ b ∷ c ∷ [])) 13 (readAnswer (wordsOf a) (wordsOf b) (wordsOf c)),
+  provided-then (every wordBufferFine (a ∷ b ∷ c ∷ [])) 13 (writeAnswer (wordsOf a) (wordsOf b) (length c / 4)),
+  provided-then (wordBufferFine a && bufferFine c) 13 (listAnswer (wordsOf a) (length c)),
+)
