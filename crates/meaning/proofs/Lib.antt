@@ -15,4 +15,5 @@ pub mod Exactly
 pub mod Memory
 pub mod Outputs
 pub mod Bytes
+pub mod Calls
 pub mod Promises

@@ -26,13 +26,13 @@ use Rattle.meaning.specs.Batch.{Packet, Cut}
 use Rattle.meaning.specs.State.{valueAt, markAt, empty, Write, applyAll, allWrites, Takes, Reached}
 use Rattle.meaning.specs.Positions.{writesOf}
 use Rattle.meaning.specs.Reader.{valueReason, readAnswer, readLeaves}
-use Rattle.meaning.specs.Writer.{packetsOf, written, width, writable, lowestBad}
+use Rattle.meaning.specs.Writer.{packetsOf, written, writable, lowestBad}
 use Rattle.meaning.specs.Reasons.{MayHold, CellFine}
 use Rattle.meaning.proofs.Verdicts.{fits-fine}
 use Rattle.meaning.proofs.Stored.{stored}
 use Rattle.meaning.proofs.Writes.{writes-of-cut}
 use Rattle.meaning.proofs.Exactly.{accepted-cut}
-use Rattle.meaning.proofs.Writing.{AllFine, width-3D, width-video, written-permitted, written-words, written-writes}
+use Rattle.meaning.proofs.Writing.{AllFine, written-permitted, written-words, written-writes}
 use Rattle.meaning.proofs.States.{Formed, Sound, FineWrite, sound-writes, formed-writes, empty-sound, rebuilt}
 
 -- ---- there and back
@@ -40,8 +40,8 @@ use Rattle.meaning.proofs.States.{Formed, Sound, FineWrite, sound-write
 packets-fine : (g : Terms) (ps : List (List ℕ)) → All (Packet g) ps → All Word (join ps) → All (FineWrite g) (allWrites ps)
 packets-fine g =
     stored g (FineWrite g) Word
-    (λ c v l n s. record { low = omega arith; fine = record { narrow = rw (width-3D (c .0) l) n; fits = s } })
-    (λ c v l n s. record { low = l .1; fine = record { narrow = rw (width-video (c .0) (l .0)) n; fits = s } })
+    (λ c v l n s. record { low = l .0; fine = record { narrow = rw (l .1) n; fits = s } })
+    (λ c v l n s. record { low = l .0; fine = record { narrow = rw (l .1) n; fits = s } })
 
 pub reached-sound : (g : Terms) (st : List ℕ) → Reached g st → Sound g st
 reached-sound g st r =
@@ -62,7 +62,7 @@ sound-takes g st s =
 -- ---- what the reader leaves of a well-formed state
 
 packets-low : (g : Terms) (ps : List (List ℕ)) → All (Packet g) ps → All (λ w. w .cell .0 < cells) (allWrites ps)
-packets-low g ps a = stored g (λ (w : Write). w .cell .0 < cells) (λ (w : ℕ). Unit {0}) (λ c v l n s. omega arith) (λ c v l n s. l .1) ps a (all-unit (join ps))
+packets-low g ps a = stored g (λ (w : Write). w .cell .0 < cells) (λ (w : ℕ). Unit {0}) (λ c v l n s. l .0) (λ c v l n s. l .0) ps a (all-unit (join ps))
 
 left-formed : (batch st : List ℕ) (g : Terms) (a : Answer) → (a .reason ≡ 0 → Cut g batch) → (b : Bool) → eqb (a .reason) 0 ≡ b → Formed st
     → Formed (cond b (applyAll st (writesOf batch)) st)
@@ -83,9 +83,9 @@ unfolding writable
 writable-iff g st c =
     let v = valueAt st c in
     let fits = fits-fine g (registerAt c) v in
-    let imp = implies-iff (ltb 0 (markAt st c)) (ltb v (2 ^ width c) && eqb (valueReason g (registerAt c) v) 0) in (
-      λ t m. let p = and-yes (ltb v (2 ^ width c)) _ (imp .0 t (yes-ltb m)) in record { narrow = ltb-yes (p .0); fits = fits .1 (eqb-yes (p .1)) },
-      λ f. imp .1 (λ m. let h = f (ltb-yes m) in yes-and (ltb v (2 ^ width c)) _ (yes-ltb (h .narrow)) (yes-eqb (fits .0 (h .fits)))),
+    let imp = implies-iff (ltb 0 (markAt st c)) (ltb v (2 ^ registerAt c .width) && eqb (valueReason g (registerAt c) v) 0) in (
+      λ t m. let p = and-yes (ltb v (2 ^ registerAt c .width)) _ (imp .0 t (yes-ltb m)) in record { narrow = ltb-yes (p .0); fits = fits .1 (eqb-yes (p .1)) },
+      λ f. imp .1 (λ m. let h = f (ltb-yes m) in yes-and (ltb v (2 ^ registerAt c .width)) _ (yes-ltb (h .narrow)) (yes-eqb (fits .0 (h .fits)))),
     )
 
 -- what the search among n cells from i on tells

@@ -90,10 +90,10 @@ masked a m e l z =
 held : (a : ℕ) → a % 16 ≡ 0 → a < 2 ^ 29 → bits 28 4 a * 16 ≡ a
 held a m l = omega arith
 
-an-address : (g : Terms) (role m : ℕ) → T (eqb (bits 28 4 m) 0) → Holdable g role → Holds g (record { clear = m; values = lowZero; holds = scaled role })
+an-address : (g : Terms) (role m : ℕ) → T (eqb (bits 28 4 m) 0) → Holdable g role → Holds g (record { width = 32; clear = m; values = lowZero; holds = scaled role })
 unfolding lowZero
 an-address g role m z h =
-    let a : ℕ = h .place in
+    let a : ℕ = h .held in
     let low : bits 1 0 a ≡ 0 = omega (arith, h .multiple) in
     record {
       word = a;
@@ -106,7 +106,7 @@ an-address g role m z h =
     }
 
 -- 0 may stand where no address is held and the rule takes 0
-nothing-held : (g : Terms) (m : ℕ) (f : ℕ → Bool) → T (f 0) → Holds g (record { clear = m; values = f; holds = noAddress })
+nothing-held : (g : Terms) (m : ℕ) (f : ℕ → Bool) → T (f 0) → Holds g (record { width = 32; clear = m; values = f; holds = noAddress })
 nothing-held g m f t = record { word = 0; small = lit< tt; fits = record { clear = and-zero-l m; value = t; granted = tt } }
 
 scaler-rows : (g : Terms) (c o role : ℕ) → Holdable g role → All (λ r. Holds g (r .register)) (scaler c o role)

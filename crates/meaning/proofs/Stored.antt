@@ -1,5 +1,6 @@
 -- What permitted packets store: one law for any property of their writes.
 -- Assumes nothing.
+use mathlib.Core.Path.{_≡_}
 use mathlib.Core.Bool.{_&&_}
 use mathlib.Core.List.{List, [], _∷_, _++_}
 use Prim.Native.Nat.{ℕ, suc, _+_, _≤_, _<_, _^_}
@@ -14,13 +15,13 @@ use Rattle.meaning.specs.declared.VideoOffset.{VideoOffset}
 use Rattle.meaning.specs.declared.Found.{Found}
 use Rattle.meaning.specs.declared.Found.the-variants.{At, Missing}
 use Rattle.meaning.specs.Words.{videoOffset, following, paraType, paraSubType, subAddress, data24}
-use Rattle.meaning.specs.Registers.{cells3D, cells, Row, Group, groups, videoRows, find, findAmong, find3D, findVideo, registerAt}
+use Rattle.meaning.specs.Registers.{cells, Row, Group, groups, videoRows, find, findAmong, find3D, findVideo, registerAt}
 use Rattle.meaning.specs.Grants.{Terms}
 use Rattle.meaning.specs.Batch.{Fits, Stands, named, ParameterStands, Run, Packet, packet3D, packetVideo}
 use Rattle.meaning.specs.State.{Write, writeTo, writes3D, writesRun, packetWrites, allWrites}
 use Rattle.meaning.proofs.Packets.{not-3D}
 use Rattle.meaning.proofs.Samples.{Of, pick-of, found-of}
-use Rattle.meaning.proofs.Table.{Row3D, RowVideo, Rows, Groups, table-3D, table-video}
+use Rattle.meaning.proofs.Table.{Row3D, RowVideo, Rows, Groups, table-3D, table-video, firstVideo}
 
 -- ---- where the cells lie
 
@@ -29,27 +30,25 @@ rows-all : {Name : Type 0} (P : ℕ → Row Name → Type 0) (Q : Cell → Type 
 rows-all P Q h i [] a = tt
 rows-all P Q h i (r ∷ rs) a = (h i r (a .0), rows-all P Q h (suc i) rs (a .1))
 
-abbrev pub Of3D : Cell → Type 0
-Of3D c = c .0 < cells3D
+-- a cell of the table, and the width of its register
+abbrev pub Wide : ℕ → Cell → Type 0
+Wide n c = (c .0 < cells) × (registerAt c .width ≡ n)
 
-abbrev pub OfVideo : Cell → Type 0
-OfVideo c = (cells3D ≤ c .0) × (c .0 < cells)
-
-found-among : (t u : ℕ) (a : SubAddress) (i : ℕ) (Gs : List Group) → Groups i Gs → Of Of3D (findAmong t u a Gs)
+found-among : (t u : ℕ) (a : SubAddress) (i : ℕ) (Gs : List Group) → Groups i Gs → Of (Wide 24) (findAmong t u a Gs)
 unfolding findAmong
 found-among t u a i [] b = tt
 found-among t u a i (G ∷ Gs) b =
-    pick-of Of3D (eqb t (G .type) && eqb u (G .subType)) (find _ (G .rows)) _
-    (found-of Of3D _ (G .rows) (rows-all (Row3D (G .type) (G .subType)) Of3D (λ j r x. rw (x .numbered) (x .high)) i (G .rows) (b .0 .rows)))
+    pick-of (Wide 24) (eqb t (G .type) && eqb u (G .subType)) (find _ (G .rows)) _
+    (found-of (Wide 24) _ (G .rows) (rows-all (Row3D (G .type) (G .subType)) (Wide 24) (λ j r x. rw (x .numbered) (x .high, x .width)) i (G .rows) (b .0 .rows)))
     (found-among t u a (i + length (G .rows)) Gs (b .1))
 
-found-3D : (t u : ℕ) (a : SubAddress) → Of Of3D (find3D t u a)
+found-3D : (t u : ℕ) (a : SubAddress) → Of (Wide 24) (find3D t u a)
 unfolding find3D
 found-3D t u a = found-among t u a 0 groups table-3D
 
-found-video : (o : VideoOffset) → Of OfVideo (findVideo o)
+found-video : (o : VideoOffset) → Of (Wide 32) (findVideo o)
 unfolding findVideo
-found-video o = found-of OfVideo _ videoRows (rows-all RowVideo OfVideo (λ j r x. rw (x .numbered) (x .low, x .high)) cells3D videoRows table-video)
+found-video o = found-of (Wide 32) _ videoRows (rows-all RowVideo (Wide 32) (λ j r x. rw (x .numbered) (x .high, x .width)) firstVideo videoRows table-video)
 
 -- ---- the law
 
@@ -59,13 +58,13 @@ data-small p = omega arith
 
 -- P of each write, from what is known of a 3D write, of a video write, and of each word of the packets (W)
 module _ (g : Terms) (P : Write → Type 0) (W : ℕ → Type 0)
-    (on-3D : (c : Cell) (v : ℕ) → Of3D c → v < 2 ^ 24 → Fits g (registerAt c) v → P (record { cell = c; value = v }))
-    (on-video : (c : Cell) (v : ℕ) → OfVideo c → W v → Fits g (registerAt c) v → P (record { cell = c; value = v })) where
-  stored-3D : (f : Found) (v : ℕ) → Of Of3D f → v < 2 ^ 24 → Stands g f v → All P (writeTo f v)
+    (on-3D : (c : Cell) (v : ℕ) → Wide 24 c → v < 2 ^ 24 → Fits g (registerAt c) v → P (record { cell = c; value = v }))
+    (on-video : (c : Cell) (v : ℕ) → Wide 32 c → W v → Fits g (registerAt c) v → P (record { cell = c; value = v })) where
+  stored-3D : (f : Found) (v : ℕ) → Of (Wide 24) f → v < 2 ^ 24 → Stands g f v → All P (writeTo f v)
   stored-3D (At c) v l n s = (on-3D c v l n s, tt)
   stored-3D Missing v l n s = tt
 
-  stored-video : (f : Found) (v : ℕ) → Of OfVideo f → W v → Stands g f v → All P (writeTo f v)
+  stored-video : (f : Found) (v : ℕ) → Of (Wide 32) f → W v → Stands g f v → All P (writeTo f v)
   stored-video (At c) v l n s = (on-video c v l n s, tt)
   stored-video Missing v l n s = tt
 

@@ -14,22 +14,22 @@ use Rattle.meaning.specs.declared.SubAddress.{SubAddress}
 use Rattle.meaning.specs.declared.VideoOffset.{VideoOffset}
 use Rattle.meaning.specs.declared.Found.{Found}
 use Rattle.meaning.specs.declared.Found.the-variants.{At, Missing}
-use Rattle.meaning.specs.Registers.{cells3D, cells, cell, Row, Group, targetGroup, stage, sample, groups, scaler, videoRows, find, findAmong, find3D, findVideo}
+use Rattle.meaning.specs.Registers.{cells, cell, registerAmong, registerAt, Row, Group, targetGroup, stage, sample, groups, scaler, videoRows, find, findAmong, find3D, findVideo}
 use Rattle.meaning.specs.Batch.{typeAllowed}
 
--- row i: it bears number i and is found by its name, which is less than `names`; its number lies in the given range
-pub record RowAt (Name : Type 0) (key : Name → ℕ) (look : Name → Found) (names lo hi i : ℕ) (r : Row Name) : Type 0 where
+-- row i: it bears number i and is found by its name, which is less than `names`; its register is so wide
+pub record RowAt (Name : Type 0) (key : Name → ℕ) (look : Name → Found) (names wide i : ℕ) (r : Row Name) : Type 0 where
   pub numbered : r .cell ≡ cell i
   pub found : look (r .name) ≡ At (cell i)
   pub short : key (r .name) < names
-  pub low : lo ≤ i
-  pub high : i < hi
+  pub width : registerAt (cell i) .width ≡ wide
+  pub high : i < cells
 
 abbrev pub Row3D : ℕ → ℕ → ℕ → Row SubAddress → Type 0
-Row3D t u = RowAt SubAddress (λ a. a .0) (find3D t u) 256 0 cells3D
+Row3D t u = RowAt SubAddress (λ a. a .0) (find3D t u) 256 24
 
 abbrev pub RowVideo : ℕ → Row VideoOffset → Type 0
-RowVideo = RowAt VideoOffset (λ o. o .0) findVideo 65536 cells3D cells
+RowVideo = RowAt VideoOffset (λ o. o .0) findVideo 65536 32
 
 -- a property of each row and its number, from number i on
 abbrev pub Rows : {Name : Type 0} → (ℕ → Row Name → Type 0) → ℕ → List (Row Name) → Type 0
@@ -47,6 +47,10 @@ abbrev pub Groups : ℕ → List Group → Type 0
 Groups i [] = Unit {0}
 Groups i (G ∷ Gs) = GroupAt i G × Groups (i + length (G .rows)) Gs
 
+-- the first cell of a video register
+abbrev pub firstVideo : ℕ
+firstVideo = 84
+
 -- ---- the tests
 
 isAt : ℕ → Found → Bool
@@ -58,37 +62,37 @@ unfolding isAt
 is-at i (At c) t = ap (λ (n : ℕ). At (cell n)) (eqb-yes t)
 is-at i Missing t = absurd t
 
-module _ {Name : Type 0} (key : Name → ℕ) (look : Name → Found) (names lo hi : ℕ) where
+module _ {Name : Type 0} (key : Name → ℕ) (look : Name → Found) (names wide : ℕ) where
   rowTest : ℕ → Row Name → Bool
-  rowTest i r = eqb (r .cell .0) i && (isAt i (look (r .name)) && (ltb (key (r .name)) names && (leb lo i && ltb i hi)))
+  rowTest i r = eqb (r .cell .0) i && (isAt i (look (r .name)) && (ltb (key (r .name)) names && (eqb (registerAt (cell i) .width) wide && ltb i cells)))
 
   rowsTest : ℕ → List (Row Name) → Bool
   rowsTest i [] = true
   rowsTest i (r ∷ rs) = rowTest i r && rowsTest (suc i) rs
 
-  row-at : (i : ℕ) (r : Row Name) → T (rowTest i r) → RowAt Name key look names lo hi i r
+  row-at : (i : ℕ) (r : Row Name) → T (rowTest i r) → RowAt Name key look names wide i r
   unfolding rowTest
   row-at i r t =
       let a = and-yes (eqb (r .cell .0) i) _ t in
       let b = and-yes (isAt i (look (r .name))) _ (a .1) in
       let c = and-yes (ltb (key (r .name)) names) _ (b .1) in
-      let d = and-yes (leb lo i) _ (c .1) in
+      let d = and-yes (eqb (registerAt (cell i) .width) wide) _ (c .1) in
       record {
         numbered = ap cell (eqb-yes (a .0));
         found = is-at i (look (r .name)) (b .0);
         short = ltb-yes (c .0);
-        low = leb-yes (d .0);
+        width = eqb-yes (d .0);
         high = ltb-yes (d .1);
       }
 
-  rows-at : (i : ℕ) (rs : List (Row Name)) → T (rowsTest i rs) → Rows (RowAt Name key look names lo hi) i rs
+  rows-at : (i : ℕ) (rs : List (Row Name)) → T (rowsTest i rs) → Rows (RowAt Name key look names wide) i rs
   unfolding rowsTest
   rows-at i [] t = tt
   rows-at i (r ∷ rs) t = let b = and-yes (rowTest i r) _ t in (row-at i r (b .0), rows-at (suc i) rs (b .1))
 
 groupTest : ℕ → Group → Bool
 groupTest i G =
-    rowsTest (λ (a : SubAddress). a .0) (find3D (G .type) (G .subType)) 256 0 cells3D i (G .rows)
+    rowsTest (λ (a : SubAddress). a .0) (find3D (G .type) (G .subType)) 256 24 i (G .rows)
     && (typeAllowed (G .type) (G .subType) && (ltb (G .type) 256 && (ltb (G .subType) 256 && leb (length (G .rows)) 112)))
 
 groupsTest : ℕ → List Group → Bool
@@ -98,12 +102,12 @@ groupsTest i (G ∷ Gs) = groupTest i G && groupsTest (i + length (G .rows)) Gs
 group-at : (i : ℕ) (G : Group) → T (groupTest i G) → GroupAt i G
 unfolding groupTest
 group-at i G t =
-    let a = and-yes (rowsTest (λ (a : SubAddress). a .0) (find3D (G .type) (G .subType)) 256 0 cells3D i (G .rows)) _ t in
+    let a = and-yes (rowsTest (λ (a : SubAddress). a .0) (find3D (G .type) (G .subType)) 256 24 i (G .rows)) _ t in
     let b = and-yes (typeAllowed (G .type) (G .subType)) _ (a .1) in
     let c = and-yes (ltb (G .type) 256) _ (b .1) in
     let d = and-yes (ltb (G .subType) 256) _ (c .1) in
     record {
-      rows = rows-at (λ (a : SubAddress). a .0) (find3D (G .type) (G .subType)) 256 0 cells3D i (G .rows) (a .0);
+      rows = rows-at (λ (a : SubAddress). a .0) (find3D (G .type) (G .subType)) 256 24 i (G .rows) (a .0);
       permitted = b .0;
       type = ltb-yes (c .0);
       subType = ltb-yes (d .0);
@@ -116,11 +120,11 @@ groups-at i [] t = tt
 groups-at i (G ∷ Gs) t = let b = and-yes (groupTest i G) _ t in (group-at i G (b .0), groups-at (i + length (G .rows)) Gs (b .1))
 
 tested-3D : T (groupsTest 0 groups)
-unfolding groupsTest groupTest rowsTest rowTest isAt find3D findAmong find groups targetGroup stage sample from typeAllowed
+unfolding groupsTest groupTest rowsTest rowTest isAt find3D findAmong find registerAt registerAmong groups targetGroup stage sample videoRows scaler from typeAllowed
 tested-3D = tt
 
-tested-video : T (rowsTest (λ (o : VideoOffset). o .0) findVideo 65536 cells3D cells cells3D videoRows)
-unfolding rowsTest rowTest isAt findVideo find videoRows scaler
+tested-video : T (rowsTest (λ (o : VideoOffset). o .0) findVideo 65536 32 firstVideo videoRows)
+unfolding rowsTest rowTest isAt findVideo find registerAt registerAmong groups targetGroup stage sample videoRows scaler from
 tested-video = tt
 
 -- ---- what they show
@@ -128,5 +132,5 @@ tested-video = tt
 pub table-3D : Groups 0 groups
 table-3D = groups-at 0 groups tested-3D
 
-pub table-video : Rows RowVideo cells3D videoRows
-table-video = rows-at (λ (o : VideoOffset). o .0) findVideo 65536 cells3D cells cells3D videoRows tested-video
+pub table-video : Rows RowVideo firstVideo videoRows
+table-video = rows-at (λ (o : VideoOffset). o .0) findVideo 65536 32 firstVideo videoRows tested-video

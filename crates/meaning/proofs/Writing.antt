@@ -5,7 +5,6 @@ use mathlib.Core.List.{List, [], _∷_, _++_, append-assoc, map}
 use Prim.Native.Nat.{ℕ, zero, suc, _+_, _*_, _≤_, _<_, _^_}
 use native.Mathlib.Omega.{arith}
 use native.Mathlib.Nat.{zero-lt-suc, zero-add, suc-add, add-suc, add-zero}
-use borrow.Author.Tests.{lt-ltb, le-ltb}
 use lib.Dec.{T, eqb, lit<}
 use lib.ListN.{length, length-append}
 use mir.Facts.{yes-and, yes-eqb}
@@ -16,14 +15,14 @@ use Rattle.meaning.specs.declared.SubAddress.{SubAddress}
 use Rattle.meaning.specs.declared.VideoOffset.{VideoOffset}
 use Rattle.meaning.specs.declared.Found.the-variants.{At}
 use Rattle.meaning.specs.Words.{Word, count, offset, videoOffset, paraAdr, paraOS, paraType, paraSubType, subAddress, data24}
-use Rattle.meaning.specs.Registers.{cells3D, cells, cell, Row, Group, targetGroup, stage, sample, groups, scaler, videoRows, isFound, find3D, findVideo}
+use Rattle.meaning.specs.Registers.{cells, cell, registerAt, Row, Group, targetGroup, stage, sample, groups, scaler, videoRows, isFound, find3D, findVideo}
 use Rattle.meaning.specs.Grants.{Terms}
 use Rattle.meaning.specs.Batch.{offset3D, most3D, typeAllowed, allowed, named, ParameterStands, Packet, packet3D, packetVideo, Packet3D, PacketVideo}
 use Rattle.meaning.specs.State.{valueAt, markAt, Write, writeTo, writes3D, writesRun, packetWrites, allWrites}
-use Rattle.meaning.specs.Writer.{headerWord, settingWord, ifMarked, parameters, packetOf, packets3D, packetsVideo, packetsOf, written, width}
+use Rattle.meaning.specs.Writer.{headerWord, settingWord, ifMarked, parameters, packetOf, packets3D, packetsVideo, packetsOf, written}
 use Rattle.meaning.specs.Reasons.{MayHold, CellFine}
 use Rattle.meaning.proofs.Packets.{never-both}
-use Rattle.meaning.proofs.Table.{RowAt, Row3D, RowVideo, Rows, GroupAt, Groups, table-3D, table-video}
+use Rattle.meaning.proofs.Table.{RowAt, Row3D, RowVideo, Rows, GroupAt, Groups, table-3D, table-video, firstVideo}
 
 -- the writes of the marked cells among n from cell i on
 unfoldable pub markedFrom : List ℕ → ℕ → ℕ → List Write
@@ -33,14 +32,6 @@ markedFrom st i (suc n) = ifMarked (markAt st (cell i)) (record { cell = cell i;
 -- each marked cell holds what it may
 abbrev pub AllFine : Terms → List ℕ → Type 0
 AllFine g st = (c : ℕ) → c < cells → CellFine g st (cell c)
-
--- ---- the width of a cell
-
-pub width-3D : (i : ℕ) → i < cells3D → width (cell i) ≡ 24
-width-3D i l = rw (lt-ltb i cells3D l)
-
-pub width-video : (i : ℕ) → cells3D ≤ i → width (cell i) ≡ 32
-width-video i l = rw (le-ltb i cells3D l)
 
 -- ---- lists with `ifMarked`
 
@@ -140,8 +131,8 @@ parameters-few st (r ∷ rs) =
 module _ (g : Terms) (st : List ℕ) (ok : AllFine g st) where
   -- ---- parameters
 
-  value-24 : (i : ℕ) → i < cells3D → 0 < markAt st (cell i) → valueAt st (cell i) < 2 ^ 24
-  value-24 i l m = rw (width-3D i l) at (ok i (omega arith) m .narrow)
+  value-fits : (i n : ℕ) → i < cells → registerAt (cell i) .width ≡ n → 0 < markAt st (cell i) → valueAt st (cell i) < 2 ^ n
+  value-fits i n l e m = rw e at (ok i l m .narrow)
 
   module _ (t u : ℕ) (lt : t < 256) (lu : u < 256) where
     parameters-good : (i : ℕ) (rs : List (Row SubAddress)) → Rows (Row3D t u) i rs → All (GoodParameter g (settingWord t u)) (parameters st rs)
@@ -152,9 +143,9 @@ module _ (g : Terms) (st : List ℕ) (ok : AllFine g st) where
         rw (row .numbered)
         (marked-all (GoodParameter g (settingWord t u)) (markAt st (cell i)) _ (parameters st rs)
         (λ m.
-        let l = value-24 i (row .high) m in (
+        let l = value-fits i 24 (row .high) (row .width) m in (
           rw (parameter-named t u lt lu (r .name) (valueAt st (cell i)) (row .short) l, parameter-data (r .name .0) (valueAt st (cell i)) l, row .found)
-              (ok i (omega (arith, row .high)) m .fits),
+              (ok i (row .high) m .fits),
           omega (arith, row .short),
         ))
         (parameters-good (suc i) rs (a .1)))
@@ -169,7 +160,7 @@ module _ (g : Terms) (st : List ℕ) (ok : AllFine g st) where
         (marked-map (writes3D (settingWord t u)) (λ (p : ℕ). writeTo (named (settingWord t u) p) (data24 p)) (λ x xs. refl) (markAt st (cell i))
         (r .name .0 * 2 ^ 24 + valueAt st (cell i)) (record { cell = cell i; value = valueAt st (cell i) }) (parameters st rs) (markedFrom st (suc i) (length rs))
         (λ m.
-        let l = value-24 i (row .high) m in
+        let l = value-fits i 24 (row .high) (row .width) m in
         rw (parameter-named t u lt lu (r .name) (valueAt st (cell i)) (row .short) l, parameter-data (r .name .0) (valueAt st (cell i)) l, row .found))
         (parameters-writes (suc i) rs (a .1)))
 
@@ -235,7 +226,7 @@ module _ (g : Terms) (st : List ℕ) (ok : AllFine g st) where
           whole = sym e;
           run = (rw (one-offset, row .found) (ok i (row .high) m .fits), tt);
         } in
-        (packetVideo c, (omega (arith, row .short), (rw (width-video i (row .low)) at (ok i (row .high) m .narrow), tt)))
+        (packetVideo c, (omega (arith, row .short), (value-fits i 32 (row .high) (row .width) m, tt)))
 
     one-write : packetWrites onePacket ≡ record { cell = cell i; value = valueAt st (cell i) } ∷ []
     unfolding packetWrites writesRun
@@ -278,7 +269,7 @@ good-packets : (g : Terms) (st : List ℕ) → AllFine g st → All (GoodPacket 
 unfolding packetsOf
 good-packets g st ok =
     all-append (GoodPacket g) (packets3D st groups) (packetsVideo st videoRows) (groups-good g st ok 0 groups table-3D)
-    (video-good g st ok cells3D videoRows table-video)
+    (video-good g st ok firstVideo videoRows table-video)
 
 pub written-permitted : (g : Terms) (st : List ℕ) → AllFine g st → All (Packet g) (packetsOf st)
 written-permitted g st ok = all-map (GoodPacket g) (Packet g) (λ p q. q .0) (packetsOf st) (good-packets g st ok)
@@ -293,7 +284,7 @@ written-writes g st ok =
     all-writes-append (packets3D st groups) (packetsVideo st videoRows)
     ∙ ap₂ (λ (x y : List Write). x ++ y)
     (groups-writes g st ok 0 groups table-3D ∙ ap (markedFrom st 0) rows-84)
-    (video-writes g st ok cells3D videoRows table-video ∙ ap (markedFrom st cells3D) rows-17)
+    (video-writes g st ok firstVideo videoRows table-video ∙ ap (markedFrom st firstVideo) rows-17)
     ∙ marked-add st 0 84 17
 
 -- ---- "It needs at most 184 words": two for each type and sub-type, one for each 3D cell, two for each video cell

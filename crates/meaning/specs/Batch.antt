@@ -104,7 +104,7 @@ pub record Longest (g : Terms) (ws : List ℕ) (p : ℕ) : Type 0 where
 
 -- the role "has at least one granted address that its registers can hold": "a multiple of 16 below 2^29"
 pub record Holdable (g : Terms) (role : ℕ) : Type 0 where
-  pub place : ℕ
-  pub multiple : place % 16 ≡ 0
-  pub small : place < 2 ^ 29
-  pub allows : T (granted (g .grants) role place)
+  pub held : ℕ
+  pub multiple : held % 16 ≡ 0
+  pub small : held < 2 ^ 29
+  pub allows : T (granted (g .grants) role held)

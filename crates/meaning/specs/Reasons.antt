@@ -18,7 +18,7 @@ use Rattle.meaning.specs.Grants.{Terms, termsOf, grantsFine}
 use Rattle.meaning.specs.Batch.{reaches, Fits, offset3D, most3D, allowed, named}
 use Rattle.meaning.specs.State.{valueAt, markAt, wellFormed}
 use Rattle.meaning.specs.Positions.{Position, positionAt, goes, carries}
-use Rattle.meaning.specs.Writer.{width, written}
+use Rattle.meaning.specs.Writer.{written}
 use Rattle.meaning.specs.Lister.{listing}
 
 -- ---- a word at its position
@@ -83,7 +83,7 @@ pub data Reads (batch grants st : List ℕ) : ℕ → ℕ → Type 0 where
 
 -- a value that 7, 8 and 9 do not refuse in the cell, and that is no "3D value of 2^24 or more"
 pub record MayHold (g : Terms) (c : Cell) (v : ℕ) : Type 0 where
-  pub narrow : v < 2 ^ width c
+  pub narrow : v < 2 ^ registerAt c .width
   pub fits : Fits g (registerAt c) v
 
 -- of a cell of a state, if it is marked

@@ -14,10 +14,7 @@ use Rattle.meaning.specs.declared.Found.{Found}
 use Rattle.meaning.specs.declared.Found.the-variants.{At, Missing}
 use Rattle.meaning.specs.Words.{bits}
 
--- the numbers of cells: of 3D registers, and of all
-abbrev pub cells3D : ℕ
-cells3D = 84
-
+-- "The 101 registers"
 abbrev pub cells : ℕ
 cells = 101
 
@@ -175,8 +172,9 @@ scaled role v = address role (bits 28 4 v * 16)
 
 -- ---- the table
 
--- what a register may hold
+-- what a register may hold: so many bits, those that must be clear, the value rule, and the address in a value
 pub record Register : Type 0 where
+  pub width : ℕ
   pub clear : ℕ
   pub values : ℕ → Bool
   pub holds : ℕ → Held
@@ -196,11 +194,12 @@ pub record Group : Type 0 where
 abbrev pub group : ℕ → ℕ → List (Row SubAddress) → Group
 group t u rs = record { type = t; subType = u; rows = rs }
 
+-- "A 3D value is the 24 data bits"; a video value is a word
 abbrev pub row3D : ℕ → ℕ → ℕ → (ℕ → Bool) → (ℕ → Held) → Row SubAddress
-row3D c a m f h = record { cell = cell c; name = record { 0 = a }; register = record { clear = m; values = f; holds = h } }
+row3D c a m f h = record { cell = cell c; name = record { 0 = a }; register = record { width = 24; clear = m; values = f; holds = h } }
 
 abbrev pub rowVideo : ℕ → ℕ → ℕ → (ℕ → Bool) → (ℕ → Held) → Row VideoOffset
-rowVideo c o m f h = record { cell = cell c; name = record { 0 = o }; register = record { clear = m; values = f; holds = h } }
+rowVideo c o m f h = record { cell = cell c; name = record { 0 = o }; register = record { width = 32; clear = m; values = f; holds = h } }
 
 -- 01.00: cells 0 to 3
 unfoldable pub targetGroup : Group
@@ -284,4 +283,4 @@ registerAmong c (r ∷ rs) other = let more = registerAmong c rs other in cond (
 unfoldable pub registerAt : Cell → Register
 registerAt c =
     registerAmong c (join (map (λ (g : Group). g .rows) groups))
-    (registerAmong c videoRows (record { clear = 0; values = any; holds = noAddress }))
+    (registerAmong c videoRows (record { width = 0; clear = 0; values = any; holds = noAddress }))

@@ -13,7 +13,7 @@ use Rattle.meaning.specs.declared.VideoOffset.{VideoOffset}
 use Rattle.meaning.specs.declared.Found.{Found}
 use Rattle.meaning.specs.declared.Found.the-variants.{At, Missing}
 use Rattle.meaning.specs.declared.Answer.{Answer}
-use Rattle.meaning.specs.Registers.{cells3D, cells, cell, Row, Group, groups, videoRows, registerAt}
+use Rattle.meaning.specs.Registers.{cells, cell, Row, Group, groups, videoRows, registerAt}
 use Rattle.meaning.specs.Grants.{Terms, termsOf, grantsFine}
 use Rattle.meaning.specs.Batch.{offset3D}
 use Rattle.meaning.specs.State.{valueAt, markAt, wellFormed}
@@ -61,13 +61,9 @@ written st = join (packetsOf st)
 
 -- ---- 12: "a marked cell holds a value that 7, 8 or 9 would refuse, or a 3D value of 2^24 or more"
 
--- the bits of a cell's value: 24 data bits of a 3D register, a word of a video register
-abbrev pub width : Cell → ℕ
-width c = cond (ltb (c .0) cells3D) 24 32
-
 unfoldable pub writable : Terms → List ℕ → Cell → Bool
 writable g st c =
-    implies (ltb 0 (markAt st c)) (ltb (valueAt st c) (2 ^ width c) && eqb (valueReason g (registerAt c) (valueAt st c)) success)
+    implies (ltb 0 (markAt st c)) (ltb (valueAt st c) (2 ^ registerAt c .width) && eqb (valueReason g (registerAt c) (valueAt st c)) success)
 
 -- "lowest such cell", among n cells from number i on
 unfoldable pub lowestBad : Terms → List ℕ → ℕ → ℕ → Found
