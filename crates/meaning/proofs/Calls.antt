@@ -17,16 +17,17 @@ use Rattle.meaning.specs.Grants.{Terms, termsOf}
 use Rattle.meaning.specs.Batch.{Packet, Cut}
 use Rattle.meaning.specs.State.{Write, apply, applyAll, allWrites}
 use Rattle.meaning.specs.Positions.{writesOf}
-use Rattle.meaning.specs.Answers.{answer, settle}
+use Rattle.meaning.specs.Answers.{answer, provided, settle}
 use Rattle.meaning.specs.Reader.{readAnswer, readLeaves}
 use Rattle.meaning.specs.Writer.{written, writeAnswer, writeLeaves}
-use Rattle.meaning.specs.Calls.{wordBufferFine, readCall, readCallLeaves, writeCall, writeCallLeaves}
+use Rattle.meaning.specs.Lister.{listing, listAnswer, listLeaves}
+use Rattle.meaning.specs.Calls.{bufferFine, wordBufferFine, readCall, readCallLeaves, writeCall, writeCallLeaves, listCall, listCallLeaves}
 use Rattle.meaning.specs.Reasons.{Writes}
 use Rattle.meaning.proofs.Stored.{stored}
 use Rattle.meaning.proofs.Writes.{writes-of-cut}
 use Rattle.meaning.proofs.Writing.{AllFine, written-words}
-use Rattle.meaning.proofs.Exactly.{accepted-cut}
-use Rattle.meaning.proofs.Outputs.{write-told}
+use Rattle.meaning.proofs.Exactly.{accepted-cut, read-told, read-range}
+use Rattle.meaning.proofs.Outputs.{write-told, write-range, list-told, list-range}
 use Rattle.meaning.proofs.Bytes.{words-bytes, length-words, length-bytes, provided-then}
 
 -- ---- words that are words of 32 bits
@@ -90,6 +91,32 @@ words-over ws bs a =
 
 -- ---- the calls
 
+-- 13 comes from no call on words
+pub read-below-13 : (a b c : List ℕ) → readAnswer a b c .reason < 13
+read-below-13 a b c = omega (arith, read-range a b c (read-told a b c))
+
+pub write-below-13 : (a b : List ℕ) (room : ℕ) → writeAnswer a b room .reason < 13
+write-below-13 a b room = omega (arith, write-range a b room (write-told a b room))
+
+pub list-below-13 : (a : List ℕ) (room : ℕ) → listAnswer a room .reason < 13
+list-below-13 a room = omega (arith, list-range a room (list-told a room))
+
+provided-range : (b : Bool) (a : Answer) → a .reason < 13 → provided b 13 a .reason < 256
+provided-range true a l = omega arith
+provided-range false a l = omega arith
+
+pub read-call-range : (a b c : List ℕ) → readCall a b c .reason < 256
+unfolding readCall
+read-call-range a b c = provided-range (every wordBufferFine (a ∷ b ∷ c ∷ [])) _ (read-below-13 (wordsOf a) (wordsOf b) (wordsOf c))
+
+pub write-call-range : (a b c : List ℕ) → writeCall a b c .reason < 256
+unfolding writeCall
+write-call-range a b c = provided-range (every wordBufferFine (a ∷ b ∷ c ∷ [])) _ (write-below-13 (wordsOf a) (wordsOf b) (length c / 4))
+
+pub list-call-range : (a c : List ℕ) → listCall a c .reason < 256
+unfolding listCall
+list-call-range a c = provided-range (wordBufferFine a && bufferFine c) _ (list-below-13 (wordsOf a) (length c))
+
 -- a buffer that is settled alike on bytes and on words
 settled : (a : Answer) (new old new-bytes old-bytes : List ℕ) (b : Bool) → eqb (a .reason) 0 ≡ b → (a .reason ≡ 0 → wordsOf new-bytes ≡ new) → wordsOf old-bytes ≡ old
     → wordsOf (cond b new-bytes old-bytes) ≡ cond b new old
@@ -109,15 +136,15 @@ module _ (a b c : List ℕ) (fine : T (every wordBufferFine (a ∷ b ∷ c ∷ [
           λ e. rw e (words-bytes _ (left-small (wordsOf a) (wordsOf c) (termsOf (wordsOf b)) (accepted-cut (wordsOf a) (wordsOf b) (wordsOf c) e) (words-small a x) (words-small c z))) in
       rw read-call (settled now _ (wordsOf c) _ c (eqb (now .reason) 0) refl done refl)
 
-  write-call-room : writeCall a b c ≡ writeAnswer (wordsOf a) (wordsOf b) (length (wordsOf c))
+  pub write-call : writeCall a b c ≡ writeAnswer (wordsOf a) (wordsOf b) (length (wordsOf c))
   unfolding writeCall
-  write-call-room = rw (length-words c) (provided-then (every wordBufferFine (a ∷ b ∷ c ∷ [])) 13 _ fine)
+  write-call = rw (length-words c) (provided-then (every wordBufferFine (a ∷ b ∷ c ∷ [])) 13 _ fine)
 
   pub write-call-leaves : wordsOf (writeCallLeaves a b c) ≡ writeLeaves (wordsOf a) (wordsOf b) (wordsOf c)
   unfolding writeCallLeaves writeLeaves
   write-call-leaves =
       let now = writeAnswer (wordsOf a) (wordsOf b) (length (wordsOf c)) in
-      rw write-call-room
+      rw write-call
       (settled now _ (wordsOf c) _ c (eqb (now .reason) 0) refl
       (λ e. words-over (written (wordsOf a)) c (words-if (write-told (wordsOf a) (wordsOf b) (length (wordsOf c))) e)) refl)
     where
@@ -127,3 +154,12 @@ module _ (a b c : List ℕ) (fine : T (every wordBufferFine (a ∷ b ∷ c ∷ [
       words-if (Writes.not-writable s f l bad before) e = absurd (omega arith)
       words-if (Writes.no-room s f ok l) e = absurd (omega arith)
       words-if {st} {grants} (Writes.done s f ok l) e = written-words (termsOf grants) st ok
+
+module _ (a c : List ℕ) (fine : T (wordBufferFine a && bufferFine c)) where
+  pub list-call : listCall a c ≡ listAnswer (wordsOf a) (length c)
+  unfolding listCall
+  list-call = provided-then (wordBufferFine a && bufferFine c) 13 _ fine
+
+  pub list-call-leaves : listCallLeaves a c ≡ listLeaves (wordsOf a) c
+  unfolding listCallLeaves listLeaves
+  list-call-leaves = rw list-call

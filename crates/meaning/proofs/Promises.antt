@@ -33,10 +33,11 @@ use Rattle.meaning.proofs.Writes.{writes-of-cut}
 use Rattle.meaning.proofs.Writing.{at-most-184, AllFine}
 use Rattle.meaning.proofs.States.{Formed, formed-iff, Sound, empty-well-formed, untouched, last-holds}
 use Rattle.meaning.proofs.Round.{reached-sound, sound-takes, leaves-formed}
-use Rattle.meaning.proofs.Exactly.{read-told, read-answer, read-batch, accepted-cut, read-range}
+use Rattle.meaning.proofs.Exactly.{read-told, read-answer, read-batch, accepted-cut}
 use Rattle.meaning.proofs.Memory.{packets-inside, all-harmless}
-use Rattle.meaning.proofs.Outputs.{write-told, write-answer, write-range, list-told, list-answer, list-range, at-most-2568}
-use Rattle.meaning.proofs.Bytes.{provided-first, provided-then, settle-refused, settle-done}
+use Rattle.meaning.proofs.Outputs.{write-told, write-answer, list-told, list-answer, at-most-2568}
+use Rattle.meaning.proofs.Bytes.{provided-first, number-tells, settle-refused, settle-done}
+use Rattle.meaning.proofs.Calls.{Byte, read-below-13, write-below-13, list-below-13, read-call-range, write-call-range, list-call-range, read-call, read-call-leaves, write-call, write-call-leaves, list-call, list-call-leaves}
 
 -- ==== Demand 3
 
@@ -64,25 +65,21 @@ place-is-longest-beginning batch grants st s l h2 h3 z =
 
 -- ==== "Each is given exactly then"
 
--- the reader's reasons, 0 to 10
-pub read-reasons-exactly : (batch grants st : List ℕ) (r p : ℕ) → (readAnswer batch grants st ≡ answer r p) ↔ Reads batch grants st r p
-read-reasons-exactly batch grants st r p = (
-  λ e. subst (λ (a : Answer). Reads batch grants st (a .reason) (a .place)) e (read-told batch grants st),
-  read-answer batch grants st,
-)
+-- an answer that a relation is told of, and that the relation determines
+exactly : (a : Answer) (R : ℕ → ℕ → Type 0) → R (a .reason) (a .place) → ((r p : ℕ) → R r p → a ≡ answer r p)
+    → (r p : ℕ) → (a ≡ answer r p) ↔ R r p
+exactly a R told back r p = (λ e. subst (λ (x : Answer). R (x .reason) (x .place)) e told, back r p)
 
--- the writer's: 0, 1, 2, 11 and 12
-pub write-reasons-exactly : (st grants : List ℕ) (room r p : ℕ) → (writeAnswer st grants room ≡ answer r p) ↔ Writes st grants room r p
-write-reasons-exactly st grants room r p = (
-  λ e. subst (λ (a : Answer). Writes st grants room (a .reason) (a .place)) e (write-told st grants room),
-  write-answer st grants room,
-)
-
--- the lister's: 0, 1 and 11
-pub list-reasons-exactly : (st : List ℕ) (room r p : ℕ) → (listAnswer st room ≡ answer r p) ↔ Lists st room r p
-list-reasons-exactly st room r p = (
-  λ e. subst (λ (a : Answer). Lists st room (a .reason) (a .place)) e (list-told st room),
-  list-answer st room,
+-- the reader's reasons 0 to 10, the writer's 0, 1, 2, 11 and 12, the lister's 0, 1 and 11: a statement for each is a line of
+-- specs/Reasons, "in number order", "words from the front"
+pub each-reason-exactly : (a b c : List ℕ) (room : ℕ)
+    → ((r p : ℕ) → (readAnswer a b c ≡ answer r p) ↔ Reads a b c r p)
+    × ((r p : ℕ) → (writeAnswer a b room ≡ answer r p) ↔ Writes a b room r p)
+    × ((r p : ℕ) → (listAnswer a room ≡ answer r p) ↔ Lists a room r p)
+each-reason-exactly a b c room = (
+  exactly (readAnswer a b c) (Reads a b c) (read-told a b c) (λ r p. read-answer a b c),
+  exactly (writeAnswer a b room) (Writes a b room) (write-told a b room) (λ r p. write-answer a b room),
+  exactly (listAnswer a room) (Lists a room) (list-told a room) (λ r p. list-answer a room),
 )
 
 -- ==== Demand 2
@@ -192,7 +189,7 @@ pub writer-needs-its-room : (st grants : List ℕ) (room : ℕ) → T (grantsFin
     → (writeAnswer st grants room ≡ answer 11 0) ↔ (room < length (written st))
 writer-needs-its-room st grants room l r =
     let parts = reached-exactly (termsOf grants) st .0 r in (
-      λ e. less (write-reasons-exactly st grants room 11 0 .0 e) refl,
+      λ e. less (each-reason-exactly st grants [] room .1 11 0 .0 e) refl,
       λ k. write-answer st grants room (Writes.no-room (parts .0) l (parts .1) k),
     )
   where
@@ -252,22 +249,31 @@ pub bad-buffer-exactly : (a b c : List ℕ)
     × ((listCall a c .reason ≡ 13) ↔ (¬ T (wordBufferFine a && bufferFine c)))
 unfolding readCall writeCall listCall
 bad-buffer-exactly a b c = (
-  provided-first (every wordBufferFine (a ∷ b ∷ c ∷ [])) 13 (readAnswer (wordsOf a) (wordsOf b) (wordsOf c))
-      (λ e. omega (arith, read-range (wordsOf a) (wordsOf b) (wordsOf c) (read-told (wordsOf a) (wordsOf b) (wordsOf c)))),
-  provided-first (every wordBufferFine (a ∷ b ∷ c ∷ [])) 13 (writeAnswer (wordsOf a) (wordsOf b) (length c / 4))
-      (λ e. omega (arith, write-range (wordsOf a) (wordsOf b) (length c / 4) (write-told (wordsOf a) (wordsOf b) (length c / 4)))),
-  provided-first (wordBufferFine a && bufferFine c) 13 (listAnswer (wordsOf a) (length c))
-      (λ e. omega (arith, list-range (wordsOf a) (length c) (list-told (wordsOf a) (length c)))),
+  provided-first (every wordBufferFine (a ∷ b ∷ c ∷ [])) 13 _ (read-below-13 (wordsOf a) (wordsOf b) (wordsOf c)),
+  provided-first (every wordBufferFine (a ∷ b ∷ c ∷ [])) 13 _ (write-below-13 (wordsOf a) (wordsOf b) (length c / 4)),
+  provided-first (wordBufferFine a && bufferFine c) 13 _ (list-below-13 (wordsOf a) (length c)),
 )
 
--- and what 13 lets through is answered as the words are
+-- what 13 lets through is answered as the words are, and what is left is, as words, what the calls on words leave
 pub calls-are-the-words : (a b c : List ℕ)
-    → (T (every wordBufferFine (a ∷ b ∷ c ∷ [])) → readCall a b c ≡ readAnswer (wordsOf a) (wordsOf b) (wordsOf c))
-    × (T (every wordBufferFine (a ∷ b ∷ c ∷ [])) → writeCall a b c ≡ writeAnswer (wordsOf a) (wordsOf b) (length c / 4))
-    × (T (wordBufferFine a && bufferFine c) → listCall a c ≡ listAnswer (wordsOf a) (length c))
-unfolding readCall writeCall listCall
+    → (T (every wordBufferFine (a ∷ b ∷ c ∷ [])) → (readCall a b c ≡ readAnswer (wordsOf a) (wordsOf b) (wordsOf c))
+        × (All Byte a → All Byte c → wordsOf (readCallLeaves a b c) ≡ readLeaves (wordsOf a) (wordsOf b) (wordsOf c)))
+    × (T (every wordBufferFine (a ∷ b ∷ c ∷ [])) → (writeCall a b c ≡ writeAnswer (wordsOf a) (wordsOf b) (length (wordsOf c)))
+        × (wordsOf (writeCallLeaves a b c) ≡ writeLeaves (wordsOf a) (wordsOf b) (wordsOf c)))
+    × (T (wordBufferFine a && bufferFine c) → (listCall a c ≡ listAnswer (wordsOf a) (length c)) × (listCallLeaves a c ≡ listLeaves (wordsOf a) c))
 calls-are-the-words a b c = (
-  provided-then (every wordBufferFine (a ∷ b ∷ c ∷ [])) 13 (readAnswer (wordsOf a) (wordsOf b) (wordsOf c)),
-  provided-then (every wordBufferFine (a ∷ b ∷ c ∷ [])) 13 (writeAnswer (wordsOf a) (wordsOf b) (length c / 4)),
-  provided-then (wordBufferFine a && bufferFine c) 13 (listAnswer (wordsOf a) (length c)),
+  λ fine. (read-call a b c fine, read-call-leaves a b c fine),
+  λ fine. (write-call a b c fine, write-call-leaves a b c fine),
+  λ fine. (list-call a c fine, list-call-leaves a c fine),
+)
+
+-- "place × 256 + reason": the number tells both
+pub number-tells-both : (a b c : List ℕ)
+    → ((numberOf (readCall a b c) % 256 ≡ readCall a b c .reason) × (numberOf (readCall a b c) / 256 ≡ readCall a b c .place))
+    × ((numberOf (writeCall a b c) % 256 ≡ writeCall a b c .reason) × (numberOf (writeCall a b c) / 256 ≡ writeCall a b c .place))
+    × ((numberOf (listCall a c) % 256 ≡ listCall a c .reason) × (numberOf (listCall a c) / 256 ≡ listCall a c .place))
+number-tells-both a b c = (
+  number-tells (readCall a b c) (read-call-range a b c),
+  number-tells (writeCall a b c) (write-call-range a b c),
+  number-tells (listCall a c) (list-call-range a c),
 )
