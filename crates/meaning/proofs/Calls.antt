@@ -133,7 +133,7 @@ module _ (a b c : List ℕ) (fine : T (every wordBufferFine (a ∷ b ∷ c ∷ [
   read-call-leaves x z =
       let now = readAnswer (wordsOf a) (wordsOf b) (wordsOf c) in
       let done : now .reason ≡ 0 → wordsOf (bytesOf (readLeaves (wordsOf a) (wordsOf b) (wordsOf c))) ≡ applyAll (wordsOf c) (writesOf (wordsOf a)) =
-          λ e. rw e (words-bytes _ (left-small (wordsOf a) (wordsOf c) (termsOf (wordsOf b)) (accepted-cut (wordsOf a) (wordsOf b) (wordsOf c) e) (words-small a x) (words-small c z))) in
+      λ e. rw e (words-bytes _ (left-small (wordsOf a) (wordsOf c) (termsOf (wordsOf b)) (accepted-cut (wordsOf a) (wordsOf b) (wordsOf c) e) (words-small a x) (words-small c z))) in
       rw read-call (settled now _ (wordsOf c) _ c (eqb (now .reason) 0) refl done refl)
 
   pub write-call : writeCall a b c ≡ writeAnswer (wordsOf a) (wordsOf b) (length (wordsOf c))

@@ -1,4 +1,4 @@
-pub mod Cases
+pub mod BothSides
 pub mod Verdicts
 pub mod Packets
 pub mod Cuts

@@ -257,9 +257,9 @@ bad-buffer-exactly a b c = (
 -- what 13 lets through is answered as the words are, and what is left is, as words, what the calls on words leave
 pub calls-are-the-words : (a b c : List ℕ)
     → (T (every wordBufferFine (a ∷ b ∷ c ∷ [])) → (readCall a b c ≡ readAnswer (wordsOf a) (wordsOf b) (wordsOf c))
-        × (All Byte a → All Byte c → wordsOf (readCallLeaves a b c) ≡ readLeaves (wordsOf a) (wordsOf b) (wordsOf c)))
+    × (All Byte a → All Byte c → wordsOf (readCallLeaves a b c) ≡ readLeaves (wordsOf a) (wordsOf b) (wordsOf c)))
     × (T (every wordBufferFine (a ∷ b ∷ c ∷ [])) → (writeCall a b c ≡ writeAnswer (wordsOf a) (wordsOf b) (length (wordsOf c)))
-        × (wordsOf (writeCallLeaves a b c) ≡ writeLeaves (wordsOf a) (wordsOf b) (wordsOf c)))
+    × (wordsOf (writeCallLeaves a b c) ≡ writeLeaves (wordsOf a) (wordsOf b) (wordsOf c)))
     × (T (wordBufferFine a && bufferFine c) → (listCall a c ≡ listAnswer (wordsOf a) (length c)) × (listCallLeaves a c ≡ listLeaves (wordsOf a) c))
 calls-are-the-words a b c = (
   λ fine. (read-call a b c fine, read-call-leaves a b c fine),

@@ -60,6 +60,22 @@ cases =
     ∷ accepted [] stage3 0x50000001 10 0x000001
     ∷ []
 
+-- "Slips we expect someone to make", a batch for each that K1 to K12 do not catch
+unfoldable pub slips : List Case
+slips =
+    -- address + reach is 2^32 + 1, past the end of memory: the sum must not wrap
+    refused (1 ∷ 0xFFFFFF00 ∷ 0x100 ∷ 0x101 ∷ []) type01 0x50FFFFFF 9
+    -- a 3D packet of 114 words, and a run that leaves the video registers
+    ∷ record { batch = 0x0072043C ∷ []; grants = []; gives = answer 4 0; leaves = empty }
+    ∷ record { batch = 0x000823E4 ∷ []; grants = []; gives = answer 4 0; leaves = empty }
+    -- two packets are two writes
+    ∷ record { batch = 0x00012208 ∷ 0x07FF07FF ∷ 0x0001220C ∷ 0x00000001 ∷ []; grants = []; gives = answer 0 4; leaves = set (set (holding 84 0x07FF07FF) 85 1) 186 1 }
+    -- the second packet is refused, so the first has not happened
+    ∷ record { batch = 0x00012208 ∷ 0x07FF07FF ∷ 0x0001220C ∷ 0xF8000000 ∷ []; grants = []; gives = answer 7 3; leaves = empty }
+    -- short by a word, but its bad word comes first
+    ∷ record { batch = 0x0003043C ∷ type01 ∷ 0x3F000800 ∷ []; grants = []; gives = answer 7 2; leaves = empty }
+    ∷ []
+
 abbrev pub Holds : Case → Type 0
 Holds c = (readAnswer (c .batch) (c .grants) empty ≡ c .gives) × (readLeaves (c .batch) (c .grants) empty ≡ c .leaves)
 

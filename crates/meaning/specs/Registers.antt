@@ -254,6 +254,10 @@ videoRows =
 
 -- ---- the register of a name, and of a cell
 
+abbrev pub isFound : Found → Bool
+isFound (At c) = true
+isFound Missing = false
+
 unfoldable pub find : {Name : Type 0} → (Name → Bool) → List (Row Name) → Found
 find is [] = Missing
 find is (r ∷ rs) = let more = find is rs in cond (is (r .name)) (At (r .cell)) more
@@ -270,10 +274,6 @@ find3D t u a = findAmong t u a groups
 
 unfoldable pub findVideo : VideoOffset → Found
 findVideo o = find (λ n. eqb (o .0) (n .0)) videoRows
-
-abbrev pub isFound : Found → Bool
-isFound (At c) = true
-isFound Missing = false
 
 -- the register of the row that bears the cell's number
 unfoldable pub registerAmong : {Name : Type 0} → Cell → List (Row Name) → Register → Register

@@ -1,4 +1,5 @@
--- What document 01 gives as examples, each computed: K1 to K12, the listing of K1's state, the format bytes.
+-- What document 01 gives as examples, and what its likely slips would change, each computed: K1 to K12, the slips, the writer's and
+-- the lister's words and bytes, the format bytes.
 -- Assumes nothing.
 use mathlib.Core.Path.{_≡_, refl}
 use mathlib.Core.Logic.{_↔_}
@@ -7,22 +8,24 @@ use mathlib.Core.List.{List, [], _∷_}
 use Prim.Native.Nat.{ℕ, _<_}
 use native.Mathlib.Omega.{arith}
 use lib.Dec.{T, ltb, eqb}
-use lib.ListN.{length, getD}
+use lib.ListN.{length, getD, set}
 use mir.Facts.{and-yes, eqb-yes, ltb-yes, yes-ltb}
 use Rattle.laws.specs.Lists.{All, every, some, from}
 use Rattle.laws.specs.Tests.{oneOf}
 use Rattle.laws.proofs.Lists.{every-from}
 use Rattle.laws.proofs.Tests.{beq-iff}
-use Rattle.meaning.specs.Words.{count, offset, paraAdr, paraOS, paraType, paraSubType, subAddress, data24}
+use Rattle.meaning.specs.Words.{bytesOf, count, offset, paraAdr, paraOS, paraType, paraSubType, subAddress, data24}
 use Rattle.meaning.specs.Registers.{formats, bytesAmong, bytesPerPixel, formatTable, sizes, location, formatByte, levels, filters, wraps, lowNot3, lowZero, targetGroup, stage, sample, groups, scaler, videoRows, find, findAmong, find3D, findVideo, registerAmong, registerAt}
 use Rattle.meaning.specs.Grants.{grantFine, grantsFine, covers, granted}
 use Rattle.meaning.specs.Batch.{typeAllowed, allowed}
 use Rattle.meaning.specs.State.{cellFormed, wellFormed, empty, apply, applyAll}
 use Rattle.meaning.specs.Positions.{kindOf, after, nextKind, nextLeft, goes, carries, writeAt, writesFrom, writesOf}
 use Rattle.meaning.specs.Reader.{unless, runIn, headerReason, valueReason, wordReason, judge, run, batchAnswer, readAnswer, readLeaves}
+use Rattle.meaning.specs.Answers.{answer}
+use Rattle.meaning.specs.Writer.{parameters, packets3D, packetsVideo, packetsOf, written, writable, lowestBad, writeAnswer}
 use Rattle.meaning.specs.Text.{ascii}
 use Rattle.meaning.specs.Lister.{digit, hex, decimal, linesOf, lines3D, cellLines, listing}
-use Rattle.meaning.specs.Cases.{holding, cases, Holds, formatBytes}
+use Rattle.meaning.specs.Cases.{holding, cases, slips, Holds, formatBytes}
 
 -- "K1 to K12 are one table, with a single proved statement about the definitions over it"
 pub cases-hold : All Holds cases
@@ -31,6 +34,29 @@ cases-hold = (
   (refl, refl),
   ((refl, refl), ((refl, refl), ((refl, refl), ((refl, refl), ((refl, refl), ((refl, refl), ((refl, refl), ((refl, refl), ((refl, refl), ((refl, refl), ((refl, refl), tt))))))))))),
 )
+
+pub slips-hold : All Holds slips
+unfolding slips holding count offset paraAdr paraOS paraType paraSubType subAddress data24 formats bytesAmong bytesPerPixel sizes location formatByte levels filters wraps lowNot3 lowZero targetGroup stage sample groups scaler videoRows find findAmong find3D findVideo registerAmong registerAt grantFine grantsFine covers granted typeAllowed allowed cellFormed wellFormed empty apply applyAll kindOf after nextKind nextLeft goes carries writeAt writesFrom writesOf unless runIn headerReason valueReason wordReason judge run batchAnswer readAnswer readLeaves every some from oneOf
+slips-hold = ((refl, refl), ((refl, refl), ((refl, refl), ((refl, refl), ((refl, refl), ((refl, refl), tt))))))
+
+-- state and grants both bad: 1 comes before 2
+pub order-example : readAnswer [] (1 ∷ []) [] ≡ answer 1 0
+unfolding wellFormed grantsFine readAnswer
+order-example = refl
+
+-- one packet for a stage's cell, and one for a video cell
+pub written-example : written (set (set (holding 10 1) 84 0x07FF07FF) 185 1) ≡ 0x0002043C ∷ 0x03020000 ∷ 0x50000001 ∷ 0x00012208 ∷ 0x07FF07FF ∷ []
+unfolding holding empty parameters packets3D packetsVideo packetsOf written targetGroup stage sample groups scaler videoRows from
+written-example = refl
+
+-- "a 3D value of 2^24 or more"
+pub unwritable-example : writeAnswer (holding 0 0x1000000) [] 184 ≡ answer 12 0
+unfolding holding empty cellFormed wellFormed grantsFine writable lowestBad writeAnswer valueReason unless sizes registerAt registerAmong targetGroup stage sample groups scaler videoRows every from
+unwritable-example = refl
+
+-- "words are 32 bits little-endian"
+pub bytes-example : bytesOf (0x04030201 ∷ []) ≡ 1 ∷ 2 ∷ 3 ∷ 4 ∷ []
+bytes-example = refl
 
 -- "Whole example, case K1"
 pub listing-example : listing (holding 1 0x001000) ≡ ascii "cells=1\nreg=01.00.50 val=00001000\n"
