@@ -15,7 +15,7 @@ use Rattle.laws.specs.Tests.{oneOf}
 use Rattle.laws.proofs.Lists.{every-from}
 use Rattle.laws.proofs.Tests.{beq-iff}
 use Rattle.meaning.specs.Words.{bytesOf, count, offset, paraAdr, paraOS, paraType, paraSubType, subAddress, data24}
-use Rattle.meaning.specs.Registers.{formats, bytesAmong, bytesPerPixel, formatTable, sizes, location, formatByte, levels, filters, wraps, lowNot3, lowZero, targetGroup, stage, sample, groups, scaler, videoRows, find, findAmong, find3D, findVideo, registerAmong, registerAt}
+use Rattle.meaning.specs.Registers.{formats, bytesAmong, bytesPerPixel, formatTable, alphaConstants, location, formatByte, levels, filters, mapping, alphaSelect, memoryLocation, targetGroup, stage, sample, groups, scaler, videoRows, find, findAmong, find3D, findVideo, registerAmong, registerAt}
 use Rattle.meaning.specs.Grants.{grantFine, grantsFine, covers, granted}
 use Rattle.meaning.specs.Batch.{typeAllowed, allowed}
 use Rattle.meaning.specs.State.{cellFormed, wellFormed, empty, apply, applyAll}
@@ -29,14 +29,14 @@ use Rattle.meaning.specs.Cases.{holding, cases, slips, Holds, formatByte
 
 -- "K1 to K12 are one table, with a single proved statement about the definitions over it"
 pub cases-hold : All Holds cases
-unfolding cases holding count offset paraAdr paraOS paraType paraSubType subAddress data24 formats bytesAmong bytesPerPixel sizes location formatByte levels filters wraps lowNot3 lowZero targetGroup stage sample groups scaler videoRows find findAmong find3D findVideo registerAmong registerAt grantFine grantsFine covers granted typeAllowed allowed cellFormed wellFormed empty apply applyAll kindOf after nextKind nextLeft goes carries writeAt writesFrom writesOf unless runIn headerReason valueReason wordReason judge run batchAnswer readAnswer readLeaves every some from oneOf
+unfolding cases holding count offset paraAdr paraOS paraType paraSubType subAddress data24 formats bytesAmong bytesPerPixel alphaConstants location formatByte levels filters mapping alphaSelect memoryLocation targetGroup stage sample groups scaler videoRows find findAmong find3D findVideo registerAmong registerAt grantFine grantsFine covers granted typeAllowed allowed cellFormed wellFormed empty apply applyAll kindOf after nextKind nextLeft goes carries writeAt writesFrom writesOf unless runIn headerReason valueReason wordReason judge run batchAnswer readAnswer readLeaves every some from oneOf
 cases-hold = (
   (refl, refl),
   ((refl, refl), ((refl, refl), ((refl, refl), ((refl, refl), ((refl, refl), ((refl, refl), ((refl, refl), ((refl, refl), ((refl, refl), ((refl, refl), ((refl, refl), tt))))))))))),
 )
 
 pub slips-hold : All Holds slips
-unfolding slips holding count offset paraAdr paraOS paraType paraSubType subAddress data24 formats bytesAmong bytesPerPixel sizes location formatByte levels filters wraps lowNot3 lowZero targetGroup stage sample groups scaler videoRows find findAmong find3D findVideo registerAmong registerAt grantFine grantsFine covers granted typeAllowed allowed cellFormed wellFormed empty apply applyAll kindOf after nextKind nextLeft goes carries writeAt writesFrom writesOf unless runIn headerReason valueReason wordReason judge run batchAnswer readAnswer readLeaves every some from oneOf
+unfolding slips holding count offset paraAdr paraOS paraType paraSubType subAddress data24 formats bytesAmong bytesPerPixel alphaConstants location formatByte levels filters mapping alphaSelect memoryLocation targetGroup stage sample groups scaler videoRows find findAmong find3D findVideo registerAmong registerAt grantFine grantsFine covers granted typeAllowed allowed cellFormed wellFormed empty apply applyAll kindOf after nextKind nextLeft goes carries writeAt writesFrom writesOf unless runIn headerReason valueReason wordReason judge run batchAnswer readAnswer readLeaves every some from oneOf
 slips-hold = ((refl, refl), ((refl, refl), ((refl, refl), ((refl, refl), ((refl, refl), ((refl, refl), tt))))))
 
 -- state and grants both bad: 1 comes before 2
@@ -51,7 +51,7 @@ written-example = refl
 
 -- "a 3D value of 2^24 or more"
 pub unwritable-example : writeAnswer (holding 0 0x1000000) [] 184 ≡ answer 12 0
-unfolding holding empty cellFormed wellFormed grantsFine writable lowestBad writeAnswer valueReason unless sizes registerAt registerAmong targetGroup stage sample groups scaler videoRows every from
+unfolding holding empty cellFormed wellFormed grantsFine writable lowestBad writeAnswer valueReason unless alphaConstants registerAt registerAmong targetGroup stage sample groups scaler videoRows every from
 unwritable-example = refl
 
 -- "words are 32 bits little-endian"

@@ -19,7 +19,7 @@ use Rattle.meaning.specs.declared.Found.{Found}
 use Rattle.meaning.specs.declared.Found.the-variants.{At, Missing}
 use Rattle.meaning.specs.declared.Kind.the-variants.{Setting, Parameter, Video}
 use Rattle.meaning.specs.Words.{Word, bits, paraAdr, paraOS, paraType, paraSubType, subAddress, data24}
-use Rattle.meaning.specs.Registers.{any, scaled, noAddress, lowNot3, lowZero, sizes, levels, Register, Row, targetGroup, stage, sample, groups, scaler, videoRows, find, findAmong, find3D, findVideo, isFound, registerAmong, registerAt}
+use Rattle.meaning.specs.Registers.{any, scaled, noAddress, alphaSelect, memoryLocation, alphaConstants, levels, Register, Row, targetGroup, stage, sample, groups, scaler, videoRows, find, findAmong, find3D, findVideo, isFound, registerAmong, registerAt}
 use Rattle.meaning.specs.Grants.{Terms, granted}
 use Rattle.meaning.specs.Batch.{Fits, typeAllowed, allowed, Holdable, Longest}
 use Rattle.meaning.specs.Reader.{unless, valueReason, foundReason, wordReason}
@@ -42,7 +42,7 @@ fine g t u =
     ltb p (2 ^ 32) && eqb (foundReason g 6 (find3D t u (subAddress p)) (data24 p)) 0
 
 tested : (g : Terms) → T (fine g 0x01 0x00) × T (every (fine g 0x02) (from 0x00 16)) × T (every (fine g 0x02) (from 0x20 16))
-unfolding fine candidate subAddress data24 find3D findAmong find groups targetGroup stage sample registerAt registerAmong scaler videoRows valueReason unless sizes levels every from
+unfolding fine candidate subAddress data24 find3D findAmong find groups targetGroup stage sample registerAt registerAmong scaler videoRows valueReason unless alphaConstants levels every from
 tested g = (tt, tt, tt)
 
 fine-allowed : (g : Terms) (t u : ℕ) → T (typeAllowed t u) → T (fine g t u)
@@ -90,8 +90,8 @@ masked a m e l z =
 held : (a : ℕ) → a % 16 ≡ 0 → a < 2 ^ 29 → bits 28 4 a * 16 ≡ a
 held a m l = omega arith
 
-an-address : (g : Terms) (role m : ℕ) → T (eqb (bits 28 4 m) 0) → Holdable g role → Holds g (record { width = 32; clear = m; values = lowZero; holds = scaled role })
-unfolding lowZero
+an-address : (g : Terms) (role m : ℕ) → T (eqb (bits 28 4 m) 0) → Holdable g role → Holds g (record { width = 32; clear = m; values = memoryLocation; holds = scaled role })
+unfolding memoryLocation
 an-address g role m z h =
     let a : ℕ = h .held in
     let low : bits 1 0 a ≡ 0 = omega (arith, h .multiple) in
@@ -123,13 +123,13 @@ scaler-rows g c o role h = (
 )
 
 video-rows : (g : Terms) → Holdable g 2 → Holdable g 3 → All (λ r. Holds g (r .register)) videoRows
-unfolding videoRows lowNot3
+unfolding videoRows alphaSelect
 video-rows g h2 h3 = (
   nothing-held g _ any tt,
   (
     nothing-held g _ any tt,
     (
-      nothing-held g _ lowNot3 tt,
+      nothing-held g _ alphaSelect tt,
       all-append (λ (r : Row VideoOffset). Holds g (r .register)) (scaler 87 0x2000 2) (scaler 94 0x3000 3) (scaler-rows g 87 0x2000 2 h2)
           (scaler-rows g 94 0x3000 3 h3),
     ),

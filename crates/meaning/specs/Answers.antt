@@ -6,49 +6,65 @@ use Prim.Native.Nat.{ℕ, _+_, _*_}
 use lib.Dec.{eqb}
 use Rattle.meaning.specs.declared.Answer.{Answer}
 
--- "Why a batch comes back": the table's numbers, in its order
+-- ---- "Why a batch comes back": the table's numbers, in its order; Reasons says when each is given
+
+-- "state not 202 words or not well-formed"
 abbrev pub badState : ℕ
 badState = 1
 
+-- "grant list breaks its rules"
 abbrev pub badGrants : ℕ
 badGrants = 2
 
+-- "header offset neither 043Ch nor a video register"
 abbrev pub badOffset : ℕ
 badOffset = 3
 
+-- "count outside its range, or run leaves the video registers"
 abbrev pub badCount : ℕ
 badCount = 4
 
+-- "setting not allowed"
 abbrev pub badSetting : ℕ
 badSetting = 5
 
+-- "parameter names no register in the table"
 abbrev pub noRegister : ℕ
 noRegister = 6
 
+-- "a must-be-clear bit is set"
 abbrev pub bitSet : ℕ
 bitSet = 7
 
+-- "a value rule broken"
 abbrev pub badValue : ℕ
 badValue = 8
 
+-- "address not granted"
 abbrev pub notGranted : ℕ
 notGranted = 9
 
+-- "the batch ends inside a packet"
 abbrev pub endsInside : ℕ
 endsInside = 10
 
+-- "output shorter than needed (writer, lister)"
 abbrev pub noRoom : ℕ
 noRoom = 11
 
+-- "writer: a marked cell holds a value that 7, 8 or 9 would refuse, or a 3D value of 2^24 or more"
 abbrev pub notWritable : ℕ
 notWritable = 12
 
+-- "C call and program only: a buffer over 65,536 bytes, or a word buffer not a multiple of 4"
 abbrev pub badBuffer : ℕ
 badBuffer = 13
 
 -- "Reason 0 is success"
 abbrev pub success : ℕ
 success = 0
+
+-- ---- answers
 
 abbrev pub answer : ℕ → ℕ → Answer
 answer r p = record { reason = r; place = p }

@@ -1,4 +1,7 @@
--- What a reader must believe, in document 01's order. Batch and State are the declarative side: they import nothing of what stands below them.
+-- What a reader must believe, in document 01's order. Each definition is headed by the sentence that it renders.
+-- The declarative side, Words to State, imports nothing of what stands below it.
+-- Letters: g terms, ws words, w word or write, h header, s setting, p parameter or place, v value, o offset, t type, u sub-type,
+-- a address or answer, c cell, st state, r reason, row or register, k words left, n number, i index.
 pub mod Words
 pub mod Registers
 pub mod Grants

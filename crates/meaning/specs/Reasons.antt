@@ -1,4 +1,5 @@
--- "Why a batch comes back": the table row by row, as what must be the case for an answer. It cites no reader, writer or lister.
+-- 6. "Why a batch comes back": the table row by row, as what must be the case for a reason and a place. "Each is given exactly then"
+-- is each-reason-exactly in proofs/Promises. No answer is computed here: of Writer and Lister only the exact words and bytes are cited.
 -- Assumes nothing.
 use mathlib.Core.Path.{_≡_}
 use mathlib.Core.Logic.{_≢_, _⊎_}
@@ -36,9 +37,9 @@ VideoRun o (suc n) = VideoRegister o × VideoRun (following o) n
 pub data Given (g : Terms) : Kind → ℕ → ℕ → ℕ → Type 0 where
   -- "header offset neither 043Ch nor a video register"
   bad-offset : {kind : Kind} {h : ℕ} → offset h ≢ offset3D → ¬ VideoRegister (videoOffset h) → Given g kind 0 h 3
-  -- "count outside its range, ..
+  -- "count outside its range": of a 3D packet
   bad-count : {kind : Kind} {h : ℕ} → offset h ≡ offset3D → (count h < 2) ⊎ (most3D < count h) → Given g kind 0 h 4
-  -- .. or run leaves the video registers"
+  -- "count outside its range, or run leaves the video registers": of a video packet
   bad-run : {kind : Kind} {h : ℕ} → VideoRegister (videoOffset h) → (count h < 1) ⊎ (¬ VideoRun (videoOffset h) (count h)) → Given g kind 0 h 4
   -- "setting not allowed"
   bad-setting : {k s : ℕ} → ¬ T (allowed s) → Given g Setting (suc k) s 5

@@ -32,7 +32,7 @@ pub record Format : Type 0 where
 abbrev pub format : ℕ → List ℕ → ℕ → Format
 format c w b = record { code = c; with = w; bytes = b }
 
--- "Permitted: .."
+-- "Permitted: 00010 with 5, 6; 00110 with 0; .."
 unfoldable pub formats : List Format
 formats =
     format 0b00010 (5 ∷ 6 ∷ []) 2
@@ -95,14 +95,15 @@ formatTable = join (
     ∷ []
     )
 
--- ---- the column "Values"
+-- ---- the column "Values", each rule under the manual's word for its fields
 
+-- "any"
 abbrev pub any : ℕ → Bool
 any v = true
 
 -- "bits 22:12 and 10:0 each at most 1024"
-unfoldable pub sizes : ℕ → Bool
-sizes v = leb (bits 22 12 v) 1024 && leb (bits 10 0 v) 1024
+unfoldable pub alphaConstants : ℕ → Bool
+alphaConstants v = leb (bits 22 12 v) 1024 && leb (bits 10 0 v) 1024
 
 -- "bits 21:20 are 0"
 unfoldable pub location : ℕ → Bool
@@ -132,25 +133,25 @@ filters v =
     && bothTwo (bits 15 13 v) (bits 9 7 v))))))
 
 -- "0 to 3 or 7"
-abbrev pub wrapCode : ℕ → Bool
-wrapCode x = leb x 3 || eqb x 7
+abbrev pub mappingCode : ℕ → Bool
+mappingCode x = leb x 3 || eqb x 7
 
 -- "21:19 and 18:16 each at most 1; 8:6, 5:3, 2:0 each 0 to 3 or 7"
-unfoldable pub wraps : ℕ → Bool
-wraps v =
+unfoldable pub mapping : ℕ → Bool
+mapping v =
     leb (bits 21 19 v) 1
     && (leb (bits 18 16 v) 1
-    && (wrapCode (bits 8 6 v)
-    && (wrapCode (bits 5 3 v)
-    && wrapCode (bits 2 0 v))))
+    && (mappingCode (bits 8 6 v)
+    && (mappingCode (bits 5 3 v)
+    && mappingCode (bits 2 0 v))))
 
 -- "bits 1:0 not 3"
-unfoldable pub lowNot3 : ℕ → Bool
-lowNot3 v = not (eqb (bits 1 0 v) 3)
+unfoldable pub alphaSelect : ℕ → Bool
+alphaSelect v = not (eqb (bits 1 0 v) 3)
 
 -- "bits 1:0 are 0"
-unfoldable pub lowZero : ℕ → Bool
-lowZero v = eqb (bits 1 0 v) 0
+unfoldable pub memoryLocation : ℕ → Bool
+memoryLocation v = eqb (bits 1 0 v) 0
 
 -- ---- the addresses of that column
 
@@ -201,17 +202,17 @@ row3D c a m f h = record { cell = cell c; name = record { 0 = a }; register = re
 abbrev pub rowVideo : ℕ → ℕ → ℕ → (ℕ → Bool) → (ℕ → Held) → Row VideoOffset
 rowVideo c o m f h = record { cell = cell c; name = record { 0 = o }; register = record { width = 32; clear = m; values = f; holds = h } }
 
--- 01.00: cells 0 to 3
+-- 0 to 3: 01.00.3F, .50, .51, .52
 unfoldable pub targetGroup : Group
 targetGroup = group 0x01 0x00 (
-    row3D 0 0x3F 0x800800 sizes noAddress
+    row3D 0 0x3F 0x800800 alphaConstants noAddress
     ∷ row3D 1 0x50 0 any target
     ∷ row3D 2 0x51 0x0FFFFF location noAddress
     ∷ row3D 3 0x52 0x006FFF formatByte noAddress
     ∷ []
     )
 
--- 02.0n: cells 4+2n, 5+2n
+-- 4+2n, 5+2n: 02.0n.50, .51
 unfoldable pub stage : ℕ → Group
 stage n = group 0x02 (0x00 + n) (
     row3D (4 + 2 * n) 0x50 0xFF0000 any noAddress
@@ -219,12 +220,12 @@ stage n = group 0x02 (0x00 + n) (
     ∷ []
     )
 
--- 02.2n: cells 36+3n, 37+3n, 38+3n
+-- 36+3n, 37+3n, 38+3n: 02.2n.30, .31, .32
 unfoldable pub sample : ℕ → Group
 sample n = group 0x02 (0x20 + n) (
     row3D (36 + 3 * n) 0x30 0xC00000 levels noAddress
     ∷ row3D (37 + 3 * n) 0x31 0xE00000 filters noAddress
-    ∷ row3D (38 + 3 * n) 0x32 0xC0FE00 wraps noAddress
+    ∷ row3D (38 + 3 * n) 0x32 0xC0FE00 mapping noAddress
     ∷ []
     )
 
@@ -232,24 +233,25 @@ sample n = group 0x02 (0x20 + n) (
 unfoldable pub groups : List Group
 groups = targetGroup ∷ (map stage (from 0 16) ++ map sample (from 0 16))
 
--- a scaler's seven registers from a cell and an offset on, with the scaler's role
+-- a scaler's seven registers: cells from c on, and the role of its addresses. 87 to 93 are 23E4, 23E8, 23EC, 23F0, 23F4, 23F8,
+-- 23FC, of role 2; 94 to 100 are "33E4 to 33FC", "as 87 to 93, role 3"
 unfoldable pub scaler : ℕ → ℕ → ℕ → List (Row VideoOffset)
 scaler c o role =
     rowVideo c (o + 0x3E4) 0x76FFE0FE any noAddress
     ∷ rowVideo (c + 1) (o + 0x3E8) 0x6FFE0000 any noAddress
-    ∷ rowVideo (c + 2) (o + 0x3EC) 0x2000000C lowZero (scaled role)
-    ∷ rowVideo (c + 3) (o + 0x3F0) 0xE000000C lowZero (scaled role)
+    ∷ rowVideo (c + 2) (o + 0x3EC) 0x2000000C memoryLocation (scaled role)
+    ∷ rowVideo (c + 3) (o + 0x3F0) 0xE000000C memoryLocation (scaled role)
     ∷ rowVideo (c + 4) (o + 0x3F4) 0xFFFFC00F any noAddress
     ∷ rowVideo (c + 5) (o + 0x3F8) 0x0DECC00F any noAddress
-    ∷ rowVideo (c + 6) (o + 0x3FC) 0xE000000C lowZero (scaled role)
+    ∷ rowVideo (c + 6) (o + 0x3FC) 0xE000000C memoryLocation (scaled role)
     ∷ []
 
--- cells 84 to 100. "The regulator's copy of a video register is 2000h above the original; the second HQV is another 1000h up"
+-- 84 to 100. "The regulator's copy of a video register is 2000h above the original; the second HQV is another 1000h up"
 unfoldable pub videoRows : List (Row VideoOffset)
 videoRows =
     rowVideo 84 0x2208 0xF800F800 any noAddress
     ∷ rowVideo 85 0x220C 0xF800F800 any noAddress
-    ∷ rowVideo 86 0x2210 0xFFE000FC lowNot3 noAddress
+    ∷ rowVideo 86 0x2210 0xFFE000FC alphaSelect noAddress
     ∷ (scaler 87 0x2000 2 ++ scaler 94 0x3000 3)
 
 -- ---- the register of a name, and of a cell
