@@ -1,18 +1,17 @@
 -- Facts on lists: a property of each element, a test of each or of some, numbers in a row, equal beginnings.
 -- Assumes nothing.
 use mathlib.Core.Path.{_≡_, refl, sym, ap, subst, _∙_}
-use mathlib.Core.Logic.{_↔_, _⊎_, inl, inr}
-use mathlib.Core.Bool.{Bool, _&&_, _||_}
+use mathlib.Core.Logic.{_↔_, inl, inr}
+use mathlib.Core.Bool.{Bool}
 use mathlib.Core.List.{List, [], _∷_, _++_, List·Memᴰ, List·Memᴰ·head, List·Memᴰ·tail, List·Memᴰ·not-nil, List·Memᴰ·cases-cons}
 use Prim.Native.Nat.{ℕ, zero, suc, _+_, _≤_, _<_}
 use native.Mathlib.Omega.{arith}
 use native.Mathlib.Decide.{ℕ-discrete}
-use lib.Dec.{T, eqb}
-use lib.ListN.{length, take, drop, getD, length-append}
+use lib.Dec.{T}
+use lib.ListN.{length, take, drop, length-append}
 use lib.Seq.{take-at, drop-at}
-use mir.Facts.{and-yes, yes-and, or-yes, eqb-yes}
+use mir.Facts.{and-yes, yes-and, or-yes}
 use Rattle.laws.specs.Lists.{All, every, some, join, from}
-use Rattle.laws.specs.Tests.{oneOf}
 use Rattle.laws.proofs.Tests.{or-left, or-right}
 
 -- ---- a property of each element

@@ -1,6 +1,6 @@
 -- What the calls on bytes leave is, as words, what the calls on words leave.
 -- Assumes nothing.
-use mathlib.Core.Path.{_≡_, refl, sym, ap, ap₂, _∙_}
+use mathlib.Core.Path.{_≡_, refl, ap, ap₂, _∙_}
 use mathlib.Core.Bool.{Bool, true, false, _&&_, cond}
 use mathlib.Core.List.{List, [], _∷_, _++_}
 use Prim.Native.Nat.{ℕ, zero, suc, _+_, _*_, _/_, _<_, _^_}
@@ -8,24 +8,23 @@ use native.Mathlib.Omega.{arith}
 use borrow.Author.Tests.{eqb-true}
 use lib.Dec.{T, eqb}
 use lib.ListN.{length, drop, set}
-use lib.Seq.{drop-nil}
 use Rattle.laws.specs.Lists.{All, every, join, over}
 use Rattle.meaning.specs.declared.Answer.{Answer}
-use Rattle.meaning.specs.Words.{Word, wordOf, wordsOf, bytesOf}
+use Rattle.meaning.specs.Words.{Word, wordsOf, bytesOf}
 use Rattle.meaning.specs.Registers.{cells}
 use Rattle.meaning.specs.Grants.{Terms, termsOf}
 use Rattle.meaning.specs.Batch.{Packet, Cut}
 use Rattle.meaning.specs.State.{Write, apply, applyAll, allWrites}
 use Rattle.meaning.specs.Positions.{writesOf}
-use Rattle.meaning.specs.Answers.{answer, provided, settle}
+use Rattle.meaning.specs.Answers.{provided}
 use Rattle.meaning.specs.Reader.{readAnswer, readLeaves}
 use Rattle.meaning.specs.Writer.{written, writeAnswer, writeLeaves}
-use Rattle.meaning.specs.Lister.{listing, listAnswer, listLeaves}
+use Rattle.meaning.specs.Lister.{listAnswer, listLeaves}
 use Rattle.meaning.specs.Calls.{bufferFine, wordBufferFine, readCall, readCallLeaves, writeCall, writeCallLeaves, listCall, listCallLeaves}
 use Rattle.meaning.specs.Reasons.{Writes}
 use Rattle.meaning.proofs.Stored.{stored}
 use Rattle.meaning.proofs.Writes.{writes-of-cut}
-use Rattle.meaning.proofs.Writing.{AllFine, written-words}
+use Rattle.meaning.proofs.Writing.{written-words}
 use Rattle.meaning.proofs.Exactly.{accepted-cut, read-told, read-range}
 use Rattle.meaning.proofs.Outputs.{write-told, write-range, list-told, list-range}
 use Rattle.meaning.proofs.Bytes.{words-bytes, length-words, length-bytes, provided-then}

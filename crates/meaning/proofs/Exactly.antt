@@ -1,18 +1,17 @@
 -- Each reason of the reader is given exactly then: the word's reason, and the first word that has one.
 -- Assumes nothing.
-use mathlib.Core.Path.{_≡_, refl, sym, ap, _∙_, subst}
+use mathlib.Core.Path.{_≡_, refl, ap, _∙_, subst}
 use mathlib.Core.Logic.{_↔_, _≢_, _⊎_, inl, inr}
-use mathlib.Core.Bool.{Bool, true, false, not, _&&_, cond}
+use mathlib.Core.Bool.{Bool, true, false, _&&_, cond}
 use mathlib.Core.List.{List, [], _∷_}
 use Prim.Native.Nat.{ℕ, zero, suc, _≤_, _<_}
 use native.Mathlib.Omega.{arith}
 use native.Mathlib.Decide.{ℕ-discrete}
-use native.Mathlib.Nat.{zero-lt-suc}
-use borrow.Author.Tests.{eqb-true, eqb-false, ne-eqb, eq-eqb}
-use lib.Dec.{T, leb, eqb, lit<}
+use borrow.Author.Tests.{eqb-true, eqb-false, ne-eqb}
+use lib.Dec.{T, leb, eqb}
 use lib.ListN.{length, getD}
 use lib.Bits.{bitAnd}
-use mir.Facts.{not-T, T-not, and-yes, yes-and, and-no, leb-yes, yes-leb, leb-no, eqb-yes, yes-eqb}
+use mir.Facts.{not-T, and-yes, yes-and, leb-yes, leb-no, eqb-yes, yes-eqb}
 use Rattle.laws.specs.Tests.{within}
 use Rattle.laws.proofs.Tests.{within-iff, true-of, false-of, holds-of, fails-of}
 use Rattle.meaning.specs.declared.Cell.{Cell}
@@ -22,15 +21,15 @@ use Rattle.meaning.specs.declared.Found.the-variants.{At, Missing}
 use Rattle.meaning.specs.declared.Kind.{Kind}
 use Rattle.meaning.specs.declared.Kind.the-variants.{Setting, Parameter, Video}
 use Rattle.meaning.specs.declared.Answer.{Answer}
-use Rattle.meaning.specs.Words.{count, offset, videoOffset, following, data24}
-use Rattle.meaning.specs.Registers.{isFound, findVideo, Register, registerAt}
+use Rattle.meaning.specs.Words.{count, offset, videoOffset, following}
+use Rattle.meaning.specs.Registers.{isFound, findVideo, registerAt}
 use Rattle.meaning.specs.Grants.{Terms, termsOf, grantsFine}
 use Rattle.meaning.specs.Batch.{reaches, offset3D, most3D, allowed, named, Cut}
 use Rattle.meaning.specs.State.{wellFormed}
-use Rattle.meaning.specs.Positions.{Position, kindOf, nextKind, nextLeft, positionFrom, positionAt, goes, carries}
+use Rattle.meaning.specs.Positions.{nextKind, nextLeft, positionFrom, positionAt, goes, carries}
 use Rattle.meaning.specs.Answers.{answer, provided}
 use Rattle.meaning.specs.Reader.{unless, runIn, reason3D, reasonVideo, headerReason, valueReason, foundReason, wordReason, judge, onward, follow, ended, run, batchAnswer, readAnswer}
-use Rattle.meaning.specs.Reasons.{VideoRegister, VideoRun, Given, bad-offset, bad-count, bad-run, bad-setting, no-register, bit-set, bad-value, not-granted, GivenAt, NoneBefore, Reads}
+use Rattle.meaning.specs.Reasons.{VideoRun, Given, bad-offset, bad-count, bad-run, bad-setting, no-register, bit-set, bad-value, not-granted, NoneBefore, Reads}
 use Rattle.meaning.specs.Reasons.Reads.{bad-state, bad-grants, at-word, ends-inside, accepted}
 use Rattle.meaning.proofs.Packets.{never-both}
 use Rattle.meaning.proofs.Reading.{batch-permitted}

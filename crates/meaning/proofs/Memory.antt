@@ -1,10 +1,8 @@
 -- Every address that a permitted batch writes lies, with its reach, inside one grant of its role.
 -- Assumes nothing.
-use mathlib.Core.Path.{_≡_, refl}
-use mathlib.Core.Bool.{_&&_}
 use mathlib.Core.Logic.{_↔_}
-use mathlib.Core.List.{List, [], _∷_, _++_, List·Memᴰ}
-use Prim.Native.Nat.{ℕ, _+_, _≤_, _<_}
+use mathlib.Core.List.{List, [], _∷_}
+use Prim.Native.Nat.{ℕ}
 use native.Mathlib.Omega.{arith}
 use lib.Dec.{T, leb, eqb}
 use mir.Facts.{and-yes, yes-and, leb-yes, yes-leb, eqb-yes, yes-eqb}
@@ -14,7 +12,7 @@ use Rattle.meaning.specs.Registers.{Held, nothing, address, registerAt}
 use Rattle.meaning.specs.Grants.{Grant, covers, granted, Terms}
 use Rattle.meaning.specs.Batch.{reaches, Packet}
 use Rattle.meaning.specs.State.{Write, allWrites}
-use Rattle.meaning.specs.Memory.{Admits, Touches, Contains, Inside, Apart, Harmless, OfAddress, Stores}
+use Rattle.meaning.specs.Memory.{Admits, Inside, Apart, Harmless, OfAddress, Stores}
 use Rattle.meaning.proofs.Stored.{stored}
 
 admits-iff : (x : Grant) (role a : ℕ) → T (covers role a x) ↔ Admits x role a

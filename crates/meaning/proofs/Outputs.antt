@@ -1,15 +1,15 @@
 -- Each reason of the writer and of the lister is given exactly then; a listing is at most 2,568 bytes.
 -- Assumes nothing.
-use mathlib.Core.Path.{_≡_, refl, sym, ap, _∙_}
+use mathlib.Core.Path.{_≡_, refl, ap}
 use mathlib.Core.Bool.{Bool, true, false, cond}
 use mathlib.Core.List.{List, [], _∷_, _++_}
-use Prim.Native.Nat.{ℕ, suc, _+_, _*_, _≤_, _<_}
+use Prim.Native.Nat.{ℕ, _*_, _≤_, _<_}
 use native.Mathlib.Omega.{arith}
 use native.Mathlib.Decide.{ℕ-discrete, decLt}
 use borrow.Author.Tests.{le-leb, lt-leb, leb-true, leb-false}
-use lib.Dec.{T, leb, ltb}
+use lib.Dec.{leb, ltb}
 use lib.ListN.{length, length-append}
-use Rattle.laws.specs.Lists.{join, from}
+use Rattle.laws.specs.Lists.{join}
 use Rattle.laws.proofs.Lists.{length-join-append}
 use Rattle.laws.proofs.Tests.{true-of, false-of, holds-of, fails-of}
 use Rattle.meaning.specs.declared.SubAddress.{SubAddress}
@@ -23,10 +23,10 @@ use Rattle.meaning.specs.State.{valueAt, markAt, wellFormed}
 use Rattle.meaning.specs.Answers.{answer, provided}
 use Rattle.meaning.specs.Writer.{written, lowestBad, exceptAt, writeAnswer}
 use Rattle.meaning.specs.Text.{ascii}
-use Rattle.meaning.specs.Lister.{digit, hex, decimal, line3D, lineVideo, linesOf, lines3D, cellLines, listing, listAnswer}
+use Rattle.meaning.specs.Lister.{hex, decimal, line3D, lineVideo, linesOf, lines3D, cellLines, listing, listAnswer}
 use Rattle.meaning.specs.Reasons.{CellFine, Writes, Lists}
 use Rattle.meaning.proofs.Writing.{AllFine, marked-join, rowsIn, rows-84, rows-17}
-use Rattle.meaning.proofs.Round.{Lowest, LowestIs, lowest-told}
+use Rattle.meaning.proofs.Round.{Lowest, lowest-told}
 
 -- ---- the writer
 

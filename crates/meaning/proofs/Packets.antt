@@ -4,7 +4,7 @@ use mathlib.Core.Path.{_≡_, refl, subst}
 use mathlib.Core.Logic.{_↔_}
 use mathlib.Core.Bool.{Bool, true, false, _&&_, cond}
 use mathlib.Core.List.{List, [], _∷_}
-use Prim.Native.Nat.{ℕ, suc, _≤_, _<_}
+use Prim.Native.Nat.{ℕ, _≤_}
 use native.Mathlib.Omega.{arith}
 use borrow.Author.Tests.{ne-eqb}
 use lib.Dec.{T, leb, eqb, lit<}
@@ -19,9 +19,9 @@ use Rattle.meaning.specs.declared.Kind.the-variants.{Setting, Parameter,
 use Rattle.meaning.specs.Words.{count, offset, videoOffset, following, data24}
 use Rattle.meaning.specs.Registers.{isFound, find, findVideo, scaler, videoRows}
 use Rattle.meaning.specs.Grants.{Terms}
-use Rattle.meaning.specs.Batch.{offset3D, most3D, allowed, named, ParameterStands, Packet3D, Run, PacketVideo, Packet, packet3D, packetVideo}
+use Rattle.meaning.specs.Batch.{offset3D, most3D, allowed, named, ParameterStands, Run, PacketVideo, Packet, packet3D, packetVideo}
 use Rattle.meaning.specs.Positions.{kindOf, after}
-use Rattle.meaning.specs.Reader.{unless, runIn, reason3D, reasonVideo, headerReason, wordReason}
+use Rattle.meaning.specs.Reader.{runIn, reason3D, reasonVideo, headerReason, wordReason}
 use Rattle.meaning.proofs.Verdicts.{unless-fine, stands-fine, stands-found}
 
 -- ---- what the header's tests say

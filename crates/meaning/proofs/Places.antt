@@ -1,10 +1,10 @@
 -- The place of a refusal is the length of the longest beginning of the batch with which some permitted batch starts.
 -- Assumes nothing.
-use mathlib.Core.Path.{_≡_, refl, sym, ap, _∙_}
+use mathlib.Core.Path.{_≡_, refl}
 use mathlib.Core.Logic.{_↔_, _≢_}
-use mathlib.Core.Bool.{Bool, true, false, _&&_, cond}
+use mathlib.Core.Bool.{Bool, true, false, cond}
 use mathlib.Core.List.{List, [], _∷_, _++_}
-use Prim.Native.Nat.{ℕ, zero, suc, _≤_, _<_}
+use Prim.Native.Nat.{ℕ, zero, suc, _≤_}
 use native.Mathlib.Omega.{arith}
 use lib.Dec.{T, eqb, lit<}
 use mir.Facts.{and-yes}
@@ -14,7 +14,7 @@ use Rattle.meaning.specs.declared.VideoOffset.{VideoOffset}
 use Rattle.meaning.specs.declared.Kind.{Kind}
 use Rattle.meaning.specs.declared.Kind.the-variants.{Setting, Parameter, Video}
 use Rattle.meaning.specs.declared.Answer.{Answer}
-use Rattle.meaning.specs.Words.{Word, count, offset, videoOffset, following}
+use Rattle.meaning.specs.Words.{Word, count, offset, videoOffset}
 use Rattle.meaning.specs.Registers.{isFound, findVideo}
 use Rattle.meaning.specs.Grants.{Terms}
 use Rattle.meaning.specs.Batch.{offset3D, allowed, Begins, Longest}

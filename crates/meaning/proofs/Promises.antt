@@ -7,36 +7,34 @@ use mathlib.Core.List.{List, [], _∷_, _++_}
 use Prim.Native.Nat.{ℕ, _+_, _/_, _%_, _≤_, _<_}
 use native.Mathlib.Omega.{arith}
 use lib.Dec.{T}
-use lib.ListN.{length, take, drop, getD}
-use lib.Seq.{take-append-seam}
-use Rattle.laws.specs.Lists.{All, every, over}
+use lib.ListN.{length, drop, getD}
+use Rattle.laws.specs.Lists.{All, every}
 use Rattle.laws.proofs.Tests.{true-of}
-use Rattle.meaning.specs.declared.Cell.{Cell}
 use Rattle.meaning.specs.declared.Answer.{Answer}
-use Rattle.meaning.specs.Words.{Word, wordsOf}
-use Rattle.meaning.specs.Registers.{cells, cell, Held, nothing, address, registerAt}
+use Rattle.meaning.specs.Words.{Word, wordsOf, bytesOf}
+use Rattle.meaning.specs.Registers.{cells, cell}
 use Rattle.meaning.specs.Grants.{grantsOf, grantsFine, termsOf, Terms}
 use Rattle.meaning.specs.Batch.{Cut, Longest, Holdable}
-use Rattle.meaning.specs.State.{valueAt, markAt, wellFormed, empty, Write, applyAll, allWrites, Takes, Reached}
-use Rattle.meaning.specs.Answers.{answer, numberOf, settle}
-use Rattle.meaning.specs.Reader.{batchAnswer, readAnswer, readLeaves}
+use Rattle.meaning.specs.State.{valueAt, markAt, wellFormed, empty, Write, applyAll, allWrites, Reached}
+use Rattle.meaning.specs.Answers.{answer, numberOf}
+use Rattle.meaning.specs.Reader.{readAnswer, readLeaves}
 use Rattle.meaning.specs.Writer.{written, writeAnswer, writeLeaves}
 use Rattle.meaning.specs.Lister.{listing, listAnswer, listLeaves}
 use Rattle.meaning.specs.Calls.{wordBufferFine, bufferFine, readCall, readCallLeaves, writeCall, writeCallLeaves, listCall, listCallLeaves}
 use Rattle.meaning.specs.Reasons.{CellFine, Reads, Writes, Lists}
-use Rattle.meaning.specs.Memory.{Inside, Apart, Harmless, OfAddress, Stores}
+use Rattle.meaning.specs.Memory.{Inside, Apart, Harmless, Stores}
 use Rattle.meaning.proofs.Cuts.{cut-one-way}
 use Rattle.meaning.proofs.Reading.{batch-permitted, batch-length}
 use Rattle.meaning.proofs.Places.{refusal-longest}
 use Rattle.meaning.proofs.Samples.{samples-of}
 use Rattle.meaning.proofs.Writes.{writes-of-cut}
-use Rattle.meaning.proofs.Writing.{at-most-184, AllFine}
-use Rattle.meaning.proofs.States.{Formed, formed-iff, Sound, empty-well-formed, untouched, last-holds}
+use Rattle.meaning.proofs.Writing.{at-most-184}
+use Rattle.meaning.proofs.States.{formed-iff, empty-well-formed, untouched, last-holds}
 use Rattle.meaning.proofs.Round.{reached-sound, sound-takes, leaves-formed}
 use Rattle.meaning.proofs.Exactly.{read-told, read-answer, read-batch, accepted-cut}
 use Rattle.meaning.proofs.Memory.{packets-inside, all-harmless}
 use Rattle.meaning.proofs.Outputs.{write-told, write-answer, list-told, list-answer, at-most-2568}
-use Rattle.meaning.proofs.Bytes.{provided-first, number-tells, settle-refused, settle-done}
+use Rattle.meaning.proofs.Bytes.{words-bytes, bytes-words, provided-first, number-tells, settle-refused, settle-done}
 use Rattle.meaning.proofs.Calls.{Byte, read-below-13, write-below-13, list-below-13, read-call-range, write-call-range, list-call-range, read-call, read-call-leaves, write-call, write-call-leaves, list-call, list-call-leaves}
 
 -- ==== Demand 3
@@ -266,6 +264,12 @@ calls-are-the-words a b c = (
   λ fine. (write-call a b c fine, write-call-leaves a b c fine),
   λ fine. (list-call a c fine, list-call-leaves a c fine),
 )
+
+-- "words are 32 bits little-endian": words of 32 bits and bytes, four for each word, are the same thing
+pub words-are-their-bytes : (ws bs : List ℕ)
+    → (All Word ws → wordsOf (bytesOf ws) ≡ ws)
+    × (All Byte bs → length bs % 4 ≡ 0 → bytesOf (wordsOf bs) ≡ bs)
+words-are-their-bytes ws bs = (words-bytes ws, bytes-words bs)
 
 -- "place × 256 + reason": the number tells both
 pub number-tells-both : (a b c : List ℕ)

@@ -15,7 +15,6 @@ use Rattle.meaning.specs.Words.{count}
 use Rattle.meaning.specs.Grants.{Terms}
 use Rattle.meaning.specs.Batch.{Packet, Cut}
 use Rattle.meaning.specs.Positions.{kindOf, nextKind, nextLeft}
-use Rattle.meaning.specs.Answers.{answer}
 use Rattle.meaning.specs.Reader.{headerReason, judge, follow, run, batchAnswer}
 use Rattle.meaning.proofs.Packets.{Body, Opened, opened, open-packet, close-packet}
 

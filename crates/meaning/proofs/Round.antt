@@ -1,8 +1,8 @@
 -- The states that some permitted batch reaches from the empty one are those that the writer takes.
 -- Assumes nothing.
-use mathlib.Core.Path.{_≡_, refl, sym, ap, _∙_, subst}
+use mathlib.Core.Path.{_≡_, refl, ap, _∙_}
 use mathlib.Core.Bool.{Bool, true, false, _&&_, cond}
-use mathlib.Core.List.{List, [], _∷_, _++_}
+use mathlib.Core.List.{List}
 use mathlib.Core.Logic.{_↔_}
 use Prim.Native.Nat.{ℕ, zero, suc, _+_, _≤_, _<_, _^_}
 use native.Mathlib.Omega.{arith}
@@ -10,9 +10,7 @@ use native.Mathlib.Decide.{ℕ-discrete}
 use borrow.Author.Tests.{eqb-true}
 use lib.Dec.{T, eqb, ltb}
 use mir.Facts.{and-yes, yes-and, ltb-yes, yes-ltb, eqb-yes, yes-eqb}
-use lib.ListN.{length}
 use Rattle.laws.specs.Lists.{All, join}
-use Rattle.laws.specs.Tests.{implies}
 use Rattle.laws.proofs.Lists.{all-unit}
 use Rattle.laws.proofs.Tests.{implies-iff}
 use Rattle.meaning.specs.declared.Cell.{Cell}
@@ -27,12 +25,12 @@ use Rattle.meaning.specs.State.{valueAt, markAt, empty, Write, applyAll,
 use Rattle.meaning.specs.Positions.{writesOf}
 use Rattle.meaning.specs.Reader.{valueReason, readAnswer, readLeaves}
 use Rattle.meaning.specs.Writer.{packetsOf, written, writable, lowestBad}
-use Rattle.meaning.specs.Reasons.{MayHold, CellFine}
+use Rattle.meaning.specs.Reasons.{CellFine}
 use Rattle.meaning.proofs.Verdicts.{fits-fine}
 use Rattle.meaning.proofs.Stored.{stored}
 use Rattle.meaning.proofs.Writes.{writes-of-cut}
 use Rattle.meaning.proofs.Exactly.{accepted-cut}
-use Rattle.meaning.proofs.Writing.{AllFine, written-permitted, written-words, written-writes}
+use Rattle.meaning.proofs.Writing.{written-permitted, written-words, written-writes}
 use Rattle.meaning.proofs.States.{Formed, Sound, FineWrite, sound-writes, formed-writes, empty-sound, rebuilt}
 
 -- ---- there and back

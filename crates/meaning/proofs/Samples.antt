@@ -1,16 +1,15 @@
 -- Words that may stand at each position: where each scaler role has a granted address that its registers hold, there is one.
 -- Assumes nothing.
 use mathlib.Core.Path.{_≡_, refl, sym, ap, _∙_, subst, subst₂}
-use mathlib.Core.Logic.{_⊎_, inl, inr}
-use mathlib.Core.Bool.{Bool, true, false, _&&_, _||_, cond}
-use mathlib.Core.List.{List, [], _∷_, _++_}
-use Prim.Native.Nat.{ℕ, zero, suc, _+_, _*_, _/_, _%_, _≤_, _<_, _^_}
+use mathlib.Core.Logic.{inl, inr}
+use mathlib.Core.Bool.{Bool, _&&_, cond}
+use Prim.Native.Nat.{ℕ, _+_, _*_, _/_, _%_, _<_, _^_}
 use native.Mathlib.Omega.{arith}
 use lib.Dec.{T, leb, eqb, ltb, lit<}
 use lib.Bits.{bitAnd, and-block, and-comm, and-shifted, and-zero-l}
-use mir.Facts.{and-yes, or-yes, eqb-yes, yes-eqb, leb-yes, ltb-yes}
-use Rattle.laws.specs.Lists.{All, every, some, from}
-use Rattle.laws.specs.Tests.{within, oneOf}
+use mir.Facts.{and-yes, or-yes, eqb-yes, yes-eqb, ltb-yes}
+use Rattle.laws.specs.Lists.{All, every, from}
+use Rattle.laws.specs.Tests.{within}
 use Rattle.laws.proofs.Tests.{within-iff}
 use Rattle.laws.proofs.Lists.{all-append, all-both, every-from}
 use Rattle.meaning.specs.declared.Cell.{Cell}
@@ -21,9 +20,10 @@ use Rattle.meaning.specs.declared.Kind.the-variants.{Setting, Parameter,
 use Rattle.meaning.specs.Words.{Word, bits, paraAdr, paraOS, paraType, paraSubType, subAddress, data24}
 use Rattle.meaning.specs.Registers.{any, scaled, noAddress, alphaSelect, memoryLocation, alphaConstants, levels, Register, Row, targetGroup, stage, sample, groups, scaler, videoRows, find, findAmong, find3D, findVideo, isFound, registerAmong, registerAt}
 use Rattle.meaning.specs.Grants.{Terms, granted}
-use Rattle.meaning.specs.Batch.{Fits, typeAllowed, allowed, Holdable, Longest}
+use Rattle.meaning.specs.Batch.{Fits, typeAllowed, allowed, Holdable}
 use Rattle.meaning.specs.Reader.{unless, valueReason, foundReason, wordReason}
 use Rattle.meaning.proofs.Verdicts.{fits-fine}
+use Rattle.meaning.proofs.Table.{Of, found-of}
 use Rattle.meaning.proofs.Places.{Sample, Samples}
 
 -- ---- a setting, and a parameter under each: one test over the types and sub-types
@@ -143,20 +143,6 @@ video-registers = (
   refl,
   (refl, (refl, (refl, (refl, (refl, (refl, (refl, (refl, (refl, (refl, (refl, (refl, (refl, (refl, (refl, (refl, tt)))))))))))))))),
 )
-
--- what holds of each row's cell holds of the cell that is found
-abbrev pub Of : (Cell → Type 0) → Found → Type 0
-Of Q (At c) = Q c
-Of Q Missing = Unit {0}
-
-pub pick-of : (Q : Cell → Type 0) (b : Bool) (x y : Found) → Of Q x → Of Q y → Of Q (cond b x y)
-pick-of Q true x y p q = p
-pick-of Q false x y p q = q
-
-pub found-of : {Name : Type 0} (Q : Cell → Type 0) (is : Name → Bool) (rs : List (Row Name)) → All (λ r. Q (r .cell)) rs → Of Q (find is rs)
-unfolding find
-found-of Q is [] a = tt
-found-of Q is (r ∷ rs) a = pick-of Q (is (r .name)) (At (r .cell)) (find is rs) (a .0) (found-of Q is rs (a .1))
 
 word-of : (g : Terms) (f : Found) → T (isFound f) → Of (λ c. Holds g (registerAt c)) f → (w : ℕ) × Word w × (foundReason g 4 f w ≡ 0)
 word-of g (At c) t h = (h .word, h .small, fits-fine g (registerAt c) (h .word) .0 (h .fits))

@@ -10,8 +10,7 @@ use lib.Dec.{T, leb, eqb}
 use lib.ListN.{length, getD, set, length-set, length-replicate, getD-replicate}
 use lib.Seq.{getD-set-same, getD-set-other, ext-getD}
 use mir.Facts.{and-yes, yes-and, leb-yes, yes-leb, eqb-yes, yes-eqb}
-use Rattle.laws.specs.Lists.{All, every, from}
-use Rattle.laws.specs.Tests.{implies}
+use Rattle.laws.specs.Lists.{All}
 use Rattle.laws.proofs.Lists.{every-from, from-every, all-split, all-both}
 use Rattle.laws.proofs.Tests.{implies-iff}
 use Rattle.meaning.specs.declared.Cell.{Cell}
@@ -216,10 +215,6 @@ empty-sound g =
     }
 
 -- ---- what writes leave alone, and what they leave
-
-length-apply : (st : List ℕ) (w : Write) → length (apply st w) ≡ length st
-unfolding apply
-length-apply st w = simp length-set
 
 pub untouched : (i : ℕ) (st : List ℕ) (ws : List Write) → All (λ w. (i ≢ w .cell .0) × (i ≢ cells + w .cell .0)) ws
     → getD (applyAll st ws) i 0 ≡ getD st i 0

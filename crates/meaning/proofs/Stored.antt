@@ -2,8 +2,8 @@
 -- Assumes nothing.
 use mathlib.Core.Path.{_≡_}
 use mathlib.Core.Bool.{_&&_}
-use mathlib.Core.List.{List, [], _∷_, _++_}
-use Prim.Native.Nat.{ℕ, suc, _+_, _≤_, _<_, _^_}
+use mathlib.Core.List.{List, [], _∷_}
+use Prim.Native.Nat.{ℕ, suc, _+_, _<_, _^_}
 use native.Mathlib.Omega.{arith}
 use lib.Dec.{eqb}
 use lib.ListN.{length}
@@ -20,8 +20,7 @@ use Rattle.meaning.specs.Grants.{Terms}
 use Rattle.meaning.specs.Batch.{Fits, Stands, named, ParameterStands, Run, Packet, packet3D, packetVideo}
 use Rattle.meaning.specs.State.{Write, writeTo, writes3D, writesRun, packetWrites, allWrites}
 use Rattle.meaning.proofs.Packets.{not-3D}
-use Rattle.meaning.proofs.Samples.{Of, pick-of, found-of}
-use Rattle.meaning.proofs.Table.{Row3D, RowVideo, Rows, Groups, table-3D, table-video, firstVideo}
+use Rattle.meaning.proofs.Table.{Of, pick-of, found-of, Row3D, RowVideo, Rows, Groups, table-3D, table-video, firstVideo}
 
 -- ---- where the cells lie
 

@@ -1,14 +1,13 @@
 -- Each row is found by its name, at its cell, and the cells are numbered as the rows stand: one test over the table.
 -- Assumes nothing.
-use mathlib.Core.Path.{_≡_, refl, sym, ap, _∙_}
-use mathlib.Core.Bool.{Bool, true, false, _&&_}
+use mathlib.Core.Path.{_≡_, ap}
+use mathlib.Core.Bool.{Bool, true, false, _&&_, cond}
 use mathlib.Core.List.{List, [], _∷_}
 use Prim.Native.Nat.{ℕ, suc, _+_, _<_, _≤_}
 use lib.Dec.{T, ltb, leb, eqb}
 use lib.ListN.{length}
 use mir.Facts.{and-yes, eqb-yes, ltb-yes, leb-yes}
-use Rattle.laws.specs.Lists.{from}
-use Rattle.laws.specs.Tests.{within}
+use Rattle.laws.specs.Lists.{All, from}
 use Rattle.meaning.specs.declared.Cell.{Cell}
 use Rattle.meaning.specs.declared.SubAddress.{SubAddress}
 use Rattle.meaning.specs.declared.VideoOffset.{VideoOffset}
@@ -134,3 +133,19 @@ table-3D = groups-at 0 groups tested-3D
 
 pub table-video : Rows RowVideo firstVideo videoRows
 table-video = rows-at (λ (o : VideoOffset). o .0) findVideo 65536 32 firstVideo videoRows tested-video
+
+-- ---- what a lookup finds
+
+-- what holds of each row's cell holds of the cell that is found
+abbrev pub Of : (Cell → Type 0) → Found → Type 0
+Of Q (At c) = Q c
+Of Q Missing = Unit {0}
+
+pub pick-of : (Q : Cell → Type 0) (b : Bool) (x y : Found) → Of Q x → Of Q y → Of Q (cond b x y)
+pick-of Q true x y p q = p
+pick-of Q false x y p q = q
+
+pub found-of : {Name : Type 0} (Q : Cell → Type 0) (is : Name → Bool) (rs : List (Row Name)) → All (λ r. Q (r .cell)) rs → Of Q (find is rs)
+unfolding find
+found-of Q is [] a = tt
+found-of Q is (r ∷ rs) a = pick-of Q (is (r .name)) (At (r .cell)) (find is rs) (a .0) (found-of Q is rs (a .1))

@@ -1,7 +1,7 @@
 -- What the writer emits is permitted, writes the marked cells in order, and is at most 184 words.
 -- Assumes nothing.
 use mathlib.Core.Path.{_≡_, refl, sym, ap, ap₂, _∙_}
-use mathlib.Core.List.{List, [], _∷_, _++_, append-assoc, map}
+use mathlib.Core.List.{List, [], _∷_, _++_, append-assoc}
 use Prim.Native.Nat.{ℕ, zero, suc, _+_, _*_, _≤_, _<_, _^_}
 use native.Mathlib.Omega.{arith}
 use native.Mathlib.Nat.{zero-lt-suc, zero-add, suc-add, add-suc, add-zero}
@@ -10,19 +10,17 @@ use lib.ListN.{length, length-append}
 use mir.Facts.{yes-and, yes-eqb}
 use Rattle.laws.specs.Lists.{All, from, join}
 use Rattle.laws.proofs.Lists.{all-append, all-map, all-join, length-join-append}
-use Rattle.meaning.specs.declared.Cell.{Cell}
 use Rattle.meaning.specs.declared.SubAddress.{SubAddress}
 use Rattle.meaning.specs.declared.VideoOffset.{VideoOffset}
-use Rattle.meaning.specs.declared.Found.the-variants.{At}
 use Rattle.meaning.specs.Words.{Word, count, offset, videoOffset, paraAdr, paraOS, paraType, paraSubType, subAddress, data24}
-use Rattle.meaning.specs.Registers.{cells, cell, registerAt, Row, Group, targetGroup, stage, sample, groups, scaler, videoRows, isFound, find3D, findVideo}
+use Rattle.meaning.specs.Registers.{cells, cell, registerAt, Row, Group, targetGroup, stage, sample, groups, scaler, videoRows, find3D}
 use Rattle.meaning.specs.Grants.{Terms}
-use Rattle.meaning.specs.Batch.{offset3D, most3D, typeAllowed, allowed, named, ParameterStands, Packet, packet3D, packetVideo, Packet3D, PacketVideo}
+use Rattle.meaning.specs.Batch.{offset3D, typeAllowed, allowed, named, ParameterStands, Packet, packet3D, packetVideo, Packet3D, PacketVideo}
 use Rattle.meaning.specs.State.{valueAt, markAt, Write, writeTo, writes3D, writesRun, packetWrites, allWrites}
 use Rattle.meaning.specs.Writer.{headerWord, settingWord, ifMarked, parameters, packetOf, packets3D, packetsVideo, packetsOf, written}
-use Rattle.meaning.specs.Reasons.{MayHold, CellFine}
+use Rattle.meaning.specs.Reasons.{CellFine}
 use Rattle.meaning.proofs.Packets.{never-both}
-use Rattle.meaning.proofs.Table.{RowAt, Row3D, RowVideo, Rows, GroupAt, Groups, table-3D, table-video, firstVideo}
+use Rattle.meaning.proofs.Table.{Row3D, RowVideo, Rows, Groups, table-3D, table-video, firstVideo}
 
 -- the writes of the marked cells among n from cell i on
 unfoldable pub markedFrom : List ℕ → ℕ → ℕ → List Write

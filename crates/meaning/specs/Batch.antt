@@ -1,9 +1,9 @@
 -- 4. Permitted packets and batches, said of the words alone; a cut; what begins a permitted batch.
 -- Assumes nothing.
 use mathlib.Core.Path.{_≡_}
-use mathlib.Core.Bool.{Bool, true, false, _&&_, _||_}
+use mathlib.Core.Bool.{Bool, true, _&&_, _||_}
 use mathlib.Core.List.{List, [], _∷_, _++_}
-use Prim.Native.Nat.{ℕ, _+_, _%_, _≤_, _<_, _^_}
+use Prim.Native.Nat.{ℕ, _%_, _≤_, _<_, _^_}
 use lib.Dec.{T, eqb}
 use lib.ListN.{length, take}
 use lib.Bits.{bitAnd}
@@ -23,7 +23,7 @@ abbrev pub reaches : Terms → Held → Bool
 reaches g nothing = true
 reaches g (address role a) = granted (g .grants) role a
 
--- a value may stand in a register
+-- a value may stand in a register: "Must be clear", "Values", and an address that it holds is granted
 pub record Fits (g : Terms) (r : Register) (v : ℕ) : Type 0 where
   pub clear : bitAnd v (r .clear) ≡ 0
   pub value : T (r .values v)
@@ -40,6 +40,7 @@ Stands g Missing v = ⊥
 abbrev pub offset3D : ℕ
 offset3D = 0x043C
 
+-- "(Rx40h to Rx1FFh hold 112; the manual goes on, we stop there.)": the setting and 112 parameters
 abbrev pub most3D : ℕ
 most3D = 113
 
@@ -58,7 +59,7 @@ named s p = find3D (paraType s) (paraSubType s) (subAddress p)
 abbrev pub ParameterStands : Terms → ℕ → ℕ → Type 0
 ParameterStands g s p = Stands g (named s p) (data24 p)
 
--- a header h, a setting s and parameters
+-- "3D packet": a header h, a setting s and parameters
 pub record Packet3D (g : Terms) (h s : ℕ) (ps : List ℕ) : Type 0 where
   pub bound : offset h ≡ offset3D
   pub low : 2 ≤ count h
@@ -78,6 +79,7 @@ pub record PacketVideo (g : Terms) (h : ℕ) (vs : List ℕ) : Type 0 where
   pub whole : length vs ≡ count h
   pub run : Run g (videoOffset h) vs
 
+-- a permitted packet is one or the other
 pub data Packet (g : Terms) : List ℕ → Type 0 where
   packet3D : {h s : ℕ} {ps : List ℕ} → Packet3D g h s ps → Packet g (h ∷ s ∷ ps)
   packetVideo : {h : ℕ} {vs : List ℕ} → PacketVideo g h vs → Packet g (h ∷ vs)

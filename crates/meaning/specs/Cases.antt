@@ -68,6 +68,8 @@ slips =
     -- a 3D packet of 114 words, and a run that leaves the video registers
     ∷ record { batch = 0x0072043C ∷ []; grants = []; gives = answer 4 0; leaves = empty }
     ∷ record { batch = 0x000823E4 ∷ []; grants = []; gives = answer 4 0; leaves = empty }
+    -- "The empty batch is permitted"
+    ∷ record { batch = []; grants = []; gives = answer 0 0; leaves = empty }
     -- two packets are two writes
     ∷ record { batch = 0x00012208 ∷ 0x07FF07FF ∷ 0x0001220C ∷ 0x00000001 ∷ []; grants = []; gives = answer 0 4; leaves = set (set (holding 84 0x07FF07FF) 85 1) 186 1 }
     -- the second packet is refused, so the first has not happened

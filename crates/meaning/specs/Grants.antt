@@ -1,8 +1,8 @@
 -- 3. Grants: read from words, the rules of the list, and when an address is granted. All sums are of whole numbers.
 -- Assumes nothing.
-use mathlib.Core.Bool.{Bool, true, false, _&&_}
+use mathlib.Core.Bool.{Bool, _&&_}
 use mathlib.Core.List.{List, [], _∷_}
-use Prim.Native.Nat.{ℕ, _+_, _*_, _/_, _%_, _^_}
+use Prim.Native.Nat.{ℕ, _+_, _/_, _%_, _^_}
 use lib.Dec.{leb, eqb}
 use lib.ListN.{length}
 use Rattle.laws.specs.Lists.{every, some}

@@ -1,12 +1,11 @@
 -- 7. Listing: the exact bytes, and what the lister answers.
 -- Assumes nothing.
-use mathlib.Core.Bool.{Bool, true, false, cond}
-use mathlib.Core.List.{List, [], _∷_, _++_, map}
+use mathlib.Core.Bool.{cond}
+use mathlib.Core.List.{List, [], _∷_, _++_}
 use Prim.Native.Nat.{ℕ, zero, suc, _+_, _/_, _%_, _^_}
 use lib.Dec.{leb, ltb}
 use lib.ListN.{length}
 use Rattle.laws.specs.Lists.{join, over}
-use Rattle.meaning.specs.declared.Cell.{Cell}
 use Rattle.meaning.specs.declared.SubAddress.{SubAddress}
 use Rattle.meaning.specs.declared.VideoOffset.{VideoOffset}
 use Rattle.meaning.specs.declared.Answer.{Answer}

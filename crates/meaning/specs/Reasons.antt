@@ -18,7 +18,7 @@ use Rattle.meaning.specs.Registers.{cells, cell, isFound, findVideo, reg
 use Rattle.meaning.specs.Grants.{Terms, termsOf, grantsFine}
 use Rattle.meaning.specs.Batch.{reaches, Fits, offset3D, most3D, allowed, named}
 use Rattle.meaning.specs.State.{valueAt, markAt, wellFormed}
-use Rattle.meaning.specs.Positions.{Position, positionAt, goes, carries}
+use Rattle.meaning.specs.Positions.{positionAt, goes, carries}
 use Rattle.meaning.specs.Writer.{written}
 use Rattle.meaning.specs.Lister.{listing}
 

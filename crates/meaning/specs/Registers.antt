@@ -4,7 +4,6 @@ use mathlib.Core.Bool.{Bool, true, false, not, _&&_, _||_, cond}
 use mathlib.Core.List.{List, [], _∷_, _++_, map}
 use Prim.Native.Nat.{ℕ, _+_, _*_}
 use lib.Dec.{ltb, leb, eqb}
-use lib.ListN.{getD}
 use Rattle.laws.specs.Lists.{join, from}
 use Rattle.laws.specs.Tests.{implies, oneOf}
 use Rattle.meaning.specs.declared.Cell.{Cell}
