@@ -1,18 +1,18 @@
 -- Every address that a permitted batch writes lies, with its reach, inside one grant of its role.
 -- Assumes nothing.
 use mathlib.Core.Logic.{_↔_}
-use mathlib.Core.List.{List, [], _∷_}
+use mathlib.Core.List.{List}
 use Prim.Native.Nat.{ℕ}
 use native.Mathlib.Omega.{arith}
 use lib.Dec.{T, leb, eqb}
 use mir.Facts.{and-yes, yes-and, leb-yes, yes-leb, eqb-yes, yes-eqb}
 use Rattle.laws.specs.Lists.{All, join}
-use Rattle.laws.proofs.Lists.{all-unit, some-iff}
+use Rattle.laws.proofs.Lists.{all-unit, all-map, some-iff}
 use Rattle.meaning.specs.Registers.{Held, nothing, address, registerAt}
 use Rattle.meaning.specs.Grants.{Grant, covers, granted, Terms}
 use Rattle.meaning.specs.Batch.{reaches, Packet}
-use Rattle.meaning.specs.State.{Write, allWrites}
-use Rattle.meaning.specs.Memory.{Admits, Inside, Apart, Harmless, OfAddress, Stores}
+use Rattle.meaning.specs.State.{allWrites}
+use Rattle.meaning.specs.Memory.{Admits, Inside, Apart, Harmless, Safe, OfAddress, Stores}
 use Rattle.meaning.proofs.Stored.{stored}
 
 admits-iff : (x : Grant) (role a : ℕ) → T (covers role a x) ↔ Admits x role a
@@ -53,11 +53,12 @@ harmless : (ours theirs : List Grant) → Apart ours theirs → (role a : ℕ) �
 harmless ours theirs apart role a x y mine admits other b t =
     apart x y mine other b (omega (arith, admits .from, t), omega (arith, admits .to, t))
 
-of-any : (P : ℕ → ℕ → Type 0) → ((role a : ℕ) → P role a) → (h : Held) → OfAddress P h
-of-any P p nothing = tt
-of-any P p (address role a) = p role a
+safe-held : (ours theirs : List Grant) → Apart ours theirs → (h : Held) → OfAddress (Inside ours) h → OfAddress (Safe ours theirs) h
+safe-held ours theirs apart nothing i = tt
+safe-held ours theirs apart (address role a) i = (i, harmless ours theirs apart role a)
 
-pub all-harmless : (ours theirs : List Grant) → Apart ours theirs → (ws : List Write) → All (Stores (Harmless ours theirs)) ws
-all-harmless ours theirs apart [] = tt
-all-harmless ours theirs apart (w ∷ ws) =
-    (of-any (Harmless ours theirs) (harmless ours theirs apart) (registerAt (w .cell) .holds (w .value)), all-harmless ours theirs apart ws)
+pub packets-safe : (g : Terms) (theirs : List Grant) → Apart (g .grants) theirs → (ps : List (List ℕ)) → All (Packet g) ps
+    → All (Stores (Safe (g .grants) theirs)) (allWrites ps)
+packets-safe g theirs apart ps a =
+    all-map (Stores (Inside (g .grants))) (Stores (Safe (g .grants) theirs))
+    (λ w. safe-held (g .grants) theirs apart (registerAt (w .cell) .holds (w .value))) (allWrites ps) (packets-inside g ps a)

@@ -22,7 +22,7 @@ use Rattle.meaning.specs.Writer.{written, writeAnswer, writeLeaves}
 use Rattle.meaning.specs.Lister.{listing, listAnswer, listLeaves}
 use Rattle.meaning.specs.Calls.{wordBufferFine, bufferFine, readCall, readCallLeaves, writeCall, writeCallLeaves, listCall, listCallLeaves}
 use Rattle.meaning.specs.Reasons.{CellFine, Reads, Writes, Lists}
-use Rattle.meaning.specs.Memory.{Inside, Apart, Harmless, Stores}
+use Rattle.meaning.specs.Memory.{Inside, Apart, Safe, Stores}
 use Rattle.meaning.proofs.Cuts.{cut-one-way}
 use Rattle.meaning.proofs.Reading.{batch-permitted, batch-length}
 use Rattle.meaning.proofs.Places.{refusal-longest}
@@ -30,9 +30,9 @@ use Rattle.meaning.proofs.Samples.{samples-of}
 use Rattle.meaning.proofs.Writes.{writes-of-cut}
 use Rattle.meaning.proofs.Writing.{at-most-184}
 use Rattle.meaning.proofs.States.{formed-iff, empty-well-formed, untouched, last-holds}
-use Rattle.meaning.proofs.Round.{reached-sound, sound-takes, leaves-formed}
+use Rattle.meaning.proofs.Round.{reached-sound, sound-takes, packets-low, accepted-formed, leaves-formed}
 use Rattle.meaning.proofs.Exactly.{read-told, read-answer, read-batch, accepted-cut}
-use Rattle.meaning.proofs.Memory.{packets-inside, all-harmless}
+use Rattle.meaning.proofs.Memory.{packets-inside, packets-safe}
 use Rattle.meaning.proofs.Outputs.{write-told, write-answer, list-told, list-answer, at-most-2568}
 use Rattle.meaning.proofs.Bytes.{words-bytes, bytes-words, provided-first, number-tells, settle-refused, settle-done}
 use Rattle.meaning.proofs.Calls.{Byte, read-below-13, write-below-13, list-below-13, read-call-range, write-call-range, list-call-range, read-call, read-call-leaves, write-call, write-call-leaves, list-call, list-call-leaves}
@@ -68,60 +68,75 @@ exactly : (a : Answer) (R : ℕ → ℕ → Type 0) → R (a .reason) (a .place)
     → (r p : ℕ) → (a ≡ answer r p) ↔ R r p
 exactly a R told back r p = (λ e. subst (λ (x : Answer). R (x .reason) (x .place)) e told, back r p)
 
+pub record EachReason (a b c : List ℕ) (room : ℕ) : Type 0 where
+  pub reader : (r p : ℕ) → (readAnswer a b c ≡ answer r p) ↔ Reads a b c r p
+  pub writer : (r p : ℕ) → (writeAnswer a b room ≡ answer r p) ↔ Writes a b room r p
+  pub lister : (r p : ℕ) → (listAnswer a room ≡ answer r p) ↔ Lists a room r p
+
 -- the reader's reasons 0 to 10, the writer's 0, 1, 2, 11 and 12, the lister's 0, 1 and 11: a statement for each is a line of
 -- specs/Reasons, "in number order", "words from the front"
-pub each-reason-exactly : (a b c : List ℕ) (room : ℕ)
-    → ((r p : ℕ) → (readAnswer a b c ≡ answer r p) ↔ Reads a b c r p)
-    × ((r p : ℕ) → (writeAnswer a b room ≡ answer r p) ↔ Writes a b room r p)
-    × ((r p : ℕ) → (listAnswer a room ≡ answer r p) ↔ Lists a room r p)
-each-reason-exactly a b c room = (
-  exactly (readAnswer a b c) (Reads a b c) (read-told a b c) (λ r p. read-answer a b c),
-  exactly (writeAnswer a b room) (Writes a b room) (write-told a b room) (λ r p. write-answer a b room),
-  exactly (listAnswer a room) (Lists a room) (list-told a room) (λ r p. list-answer a room),
-)
+pub each-reason-exactly : (a b c : List ℕ) (room : ℕ) → EachReason a b c room
+each-reason-exactly a b c room =
+    record {
+      reader = exactly (readAnswer a b c) (Reads a b c) (read-told a b c) (λ r p. read-answer a b c);
+      writer = exactly (writeAnswer a b room) (Writes a b room) (write-told a b room) (λ r p. write-answer a b room);
+      lister = exactly (listAnswer a room) (Lists a room) (list-told a room) (λ r p. list-answer a room);
+    }
 
 -- ==== Demand 2
+
+-- what an accepted batch leaves, by any cut of it
+left-by : (batch grants st : List ℕ) → readAnswer batch grants st .reason ≡ 0 → (c : Cut (termsOf grants) batch)
+    → readLeaves batch grants st ≡ applyAll st (allWrites (c .packets))
+unfolding readLeaves
+left-by batch grants st e c = settle-done (readAnswer batch grants st) _ st e ∙ ap (applyAll st) (writes-of-cut (termsOf grants) batch c)
 
 -- "An accepted batch leaves the register state that its writes, taken one after another .. produce"
 pub state-is-its-writes : (batch grants st : List ℕ) → readAnswer batch grants st .reason ≡ 0
     → (c : Cut (termsOf grants) batch) × (readLeaves batch grants st ≡ applyAll st (allWrites (c .packets)))
-unfolding readLeaves
-state-is-its-writes batch grants st e =
-    let c = accepted-cut batch grants st e in
-    (c, settle-done (readAnswer batch grants st) _ st e ∙ ap (applyAll st) (writes-of-cut (termsOf grants) batch c))
+state-is-its-writes batch grants st e = let c = accepted-cut batch grants st e in (c, left-by batch grants st e c)
 
--- "the last write holds", whatever comes before it and whatever other cells are written after it
-pub last-write-holds : (st : List ℕ) → T (wellFormed st) → (before : List Write) (w : Write) (later : List Write)
-    → All (λ x. x .cell .0 < cells) (before ++ w ∷ later) → All (λ x. x .cell .0 ≢ w .cell .0) later
-    → (valueAt (applyAll st (before ++ w ∷ later)) (w .cell) ≡ w .value) × (markAt (applyAll st (before ++ w ∷ later)) (w .cell) ≡ 1)
-last-write-holds st s before w later cs other = last-holds st (formed-iff st .0 s) before w later cs other
+-- "the last write holds": of a cell that no later write of the batch names
+pub last-write-holds : (batch grants st : List ℕ) → readAnswer batch grants st .reason ≡ 0
+    → (c : Cut (termsOf grants) batch) (before : List Write) (w : Write) (later : List Write)
+    → allWrites (c .packets) ≡ before ++ w ∷ later → All (λ x. x .cell .0 ≢ w .cell .0) later
+    → (valueAt (readLeaves batch grants st) (w .cell) ≡ w .value) × (markAt (readLeaves batch grants st) (w .cell) ≡ 1)
+last-write-holds batch grants st e c before w later split other =
+    rw (left-by batch grants st e c, split)
+    (last-holds st (accepted-formed batch grants st e) before w later
+    (rw split at (packets-low (termsOf grants) (c .packets) (c .permitted))) other)
 
--- and what no write names is as it was
-pub else-as-before : (st : List ℕ) (ws : List Write) (i : ℕ) → All (λ w. (i ≢ w .cell .0) × (i ≢ cells + w .cell .0)) ws
-    → getD (applyAll st ws) i 0 ≡ getD st i 0
-else-as-before st ws i a = untouched i st ws a
+-- and what no write of the batch names is as it was
+pub else-as-before : (batch grants st : List ℕ) → readAnswer batch grants st .reason ≡ 0 → (c : Cut (termsOf grants) batch) (i : ℕ)
+    → All (λ w. (i ≢ w .cell .0) × (i ≢ cells + w .cell .0)) (allWrites (c .packets))
+    → getD (readLeaves batch grants st) i 0 ≡ getD st i 0
+else-as-before batch grants st e c i a = rw (left-by batch grants st e c) (untouched i st (allWrites (c .packets)) a)
 
 -- a state that is well-formed stays so, accepted or refused
 pub stays-well-formed : (batch grants st : List ℕ) → T (wellFormed st) → T (wellFormed (readLeaves batch grants st))
 stays-well-formed batch grants st s = formed-iff (readLeaves batch grants st) .1 (leaves-formed batch grants st (formed-iff st .0 s))
 
+-- the last buffer is the one that is lent to be changed
+pub record Unchanged (a b c : List ℕ) : Type 0 where
+  pub read : readAnswer a b c .reason ≢ 0 → readLeaves a b c ≡ c
+  pub write : writeAnswer a b (length c) .reason ≢ 0 → writeLeaves a b c ≡ c
+  pub list : listAnswer a (length c) .reason ≢ 0 → listLeaves a c ≡ c
+  pub read-call : readCall a b c .reason ≢ 0 → readCallLeaves a b c ≡ c
+  pub write-call : writeCall a b c .reason ≢ 0 → writeCallLeaves a b c ≡ c
+  pub list-call : listCall a c .reason ≢ 0 → listCallLeaves a c ≡ c
+
 -- "state and output buffers stay as they were": any reason but 0, on words and on bytes
-pub refusal-changes-nothing : (a b c : List ℕ)
-    → (readAnswer a b c .reason ≢ 0 → readLeaves a b c ≡ c)
-    × (writeAnswer a b (length c) .reason ≢ 0 → writeLeaves a b c ≡ c)
-    × (listAnswer a (length c) .reason ≢ 0 → listLeaves a c ≡ c)
-    × (readCall a b c .reason ≢ 0 → readCallLeaves a b c ≡ c)
-    × (writeCall a b c .reason ≢ 0 → writeCallLeaves a b c ≡ c)
-    × (listCall a c .reason ≢ 0 → listCallLeaves a c ≡ c)
+pub refusal-changes-nothing : (a b c : List ℕ) → Unchanged a b c
 unfolding readLeaves writeLeaves listLeaves readCallLeaves writeCallLeaves listCallLeaves
-refusal-changes-nothing a b c = (
-  settle-refused (readAnswer a b c) _ c,
-  settle-refused (writeAnswer a b (length c)) _ c,
-  settle-refused (listAnswer a (length c)) _ c,
-  settle-refused (readCall a b c) _ c,
-  settle-refused (writeCall a b c) _ c,
-  settle-refused (listCall a c) _ c,
-)
+refusal-changes-nothing a b c =
+    record {
+      read = settle-refused (readAnswer a b c) _ c;
+      write = settle-refused (writeAnswer a b (length c)) _ c;
+      list = settle-refused (listAnswer a (length c)) _ c;
+      read-call = settle-refused (readCall a b c) _ c;
+      write-call = settle-refused (writeCall a b c) _ c;
+      list-call = settle-refused (listCall a c) _ c;
+    }
 
 -- ---- the writer
 
@@ -187,7 +202,7 @@ pub writer-needs-its-room : (st grants : List ℕ) (room : ℕ) → T (grantsFin
     → (writeAnswer st grants room ≡ answer 11 0) ↔ (room < length (written st))
 writer-needs-its-room st grants room l r =
     let parts = reached-exactly (termsOf grants) st .0 r in (
-      λ e. less (each-reason-exactly st grants [] room .1 11 0 .0 e) refl,
+      λ e. less (each-reason-exactly st grants [] room .writer 11 0 .0 e) refl,
       λ k. write-answer st grants room (Writes.no-room (parts .0) l (parts .1) k),
     )
   where
@@ -224,13 +239,13 @@ nothing-outside-a-grant batch grants st e =
     let c = accepted-cut batch grants st e in
     (c, packets-inside (termsOf grants) (c .packets) (c .permitted))
 
--- where no memory granted to one program is granted to the other, no address accepted for the one touches, within its reach,
--- anything granted to the other
+-- where no memory granted to one program is granted to the other, every address accepted for the one lies inside a grant of its own
+-- and touches, within its reach, nothing that is granted to the other
 pub two-programs-apart : (batch ours theirs st : List ℕ) → Apart (grantsOf ours) (grantsOf theirs) → readAnswer batch ours st .reason ≡ 0
-    → (c : Cut (termsOf ours) batch) × All (Stores (Harmless (grantsOf ours) (grantsOf theirs))) (allWrites (c .packets))
+    → (c : Cut (termsOf ours) batch) × All (Stores (Safe (grantsOf ours) (grantsOf theirs))) (allWrites (c .packets))
 two-programs-apart batch ours theirs st apart e =
     let c = accepted-cut batch ours st e in
-    (c, all-harmless (grantsOf ours) (grantsOf theirs) apart (allWrites (c .packets)))
+    (c, packets-safe (termsOf ours) (grantsOf theirs) apart (c .packets) (c .permitted))
 
 -- the reader's reason and place do not depend on what the registers hold
 pub answer-ignores-state : (batch grants st other : List ℕ) → T (wellFormed st) → T (wellFormed other)
@@ -240,30 +255,47 @@ answer-ignores-state batch grants st other s o = rw (true-of (wellFormed st) s, 
 
 -- ==== The calls on bytes
 
+-- the buffers of a call that are words: all three of reader and writer; of the lister, the state
+abbrev Three : List ℕ → List ℕ → List ℕ → Type 0
+Three a b c = T (every wordBufferFine (a ∷ b ∷ c ∷ []))
+
+abbrev Two : List ℕ → List ℕ → Type 0
+Two a c = T (wordBufferFine a && bufferFine c)
+
+pub record BadBuffer (a b c : List ℕ) : Type 0 where
+  pub read : (readCall a b c .reason ≡ 13) ↔ (¬ Three a b c)
+  pub write : (writeCall a b c .reason ≡ 13) ↔ (¬ Three a b c)
+  pub list : (listCall a c .reason ≡ 13) ↔ (¬ Two a c)
+
 -- "13: a buffer over 65,536 bytes, or a word buffer not a multiple of 4", before all others
-pub bad-buffer-exactly : (a b c : List ℕ)
-    → ((readCall a b c .reason ≡ 13) ↔ (¬ T (every wordBufferFine (a ∷ b ∷ c ∷ []))))
-    × ((writeCall a b c .reason ≡ 13) ↔ (¬ T (every wordBufferFine (a ∷ b ∷ c ∷ []))))
-    × ((listCall a c .reason ≡ 13) ↔ (¬ T (wordBufferFine a && bufferFine c)))
+pub bad-buffer-exactly : (a b c : List ℕ) → BadBuffer a b c
 unfolding readCall writeCall listCall
-bad-buffer-exactly a b c = (
-  provided-first (every wordBufferFine (a ∷ b ∷ c ∷ [])) 13 _ (read-below-13 (wordsOf a) (wordsOf b) (wordsOf c)),
-  provided-first (every wordBufferFine (a ∷ b ∷ c ∷ [])) 13 _ (write-below-13 (wordsOf a) (wordsOf b) (length c / 4)),
-  provided-first (wordBufferFine a && bufferFine c) 13 _ (list-below-13 (wordsOf a) (length c)),
-)
+bad-buffer-exactly a b c =
+    record {
+      read = provided-first (every wordBufferFine (a ∷ b ∷ c ∷ [])) 13 _ (read-below-13 (wordsOf a) (wordsOf b) (wordsOf c));
+      write = provided-first (every wordBufferFine (a ∷ b ∷ c ∷ [])) 13 _ (write-below-13 (wordsOf a) (wordsOf b) (length c / 4));
+      list = provided-first (wordBufferFine a && bufferFine c) 13 _ (list-below-13 (wordsOf a) (length c));
+    }
+
+pub record AsWords (a b c : List ℕ) : Type 0 where
+  pub read : Three a b c → readCall a b c ≡ readAnswer (wordsOf a) (wordsOf b) (wordsOf c)
+  pub read-left : Three a b c → All Byte a → All Byte c → wordsOf (readCallLeaves a b c) ≡ readLeaves (wordsOf a) (wordsOf b) (wordsOf c)
+  pub write : Three a b c → writeCall a b c ≡ writeAnswer (wordsOf a) (wordsOf b) (length (wordsOf c))
+  pub write-left : Three a b c → wordsOf (writeCallLeaves a b c) ≡ writeLeaves (wordsOf a) (wordsOf b) (wordsOf c)
+  pub list : Two a c → listCall a c ≡ listAnswer (wordsOf a) (length c)
+  pub list-left : Two a c → listCallLeaves a c ≡ listLeaves (wordsOf a) c
 
 -- what 13 lets through is answered as the words are, and what is left is, as words, what the calls on words leave
-pub calls-are-the-words : (a b c : List ℕ)
-    → (T (every wordBufferFine (a ∷ b ∷ c ∷ [])) → (readCall a b c ≡ readAnswer (wordsOf a) (wordsOf b) (wordsOf c))
-    × (All Byte a → All Byte c → wordsOf (readCallLeaves a b c) ≡ readLeaves (wordsOf a) (wordsOf b) (wordsOf c)))
-    × (T (every wordBufferFine (a ∷ b ∷ c ∷ [])) → (writeCall a b c ≡ writeAnswer (wordsOf a) (wordsOf b) (length (wordsOf c)))
-    × (wordsOf (writeCallLeaves a b c) ≡ writeLeaves (wordsOf a) (wordsOf b) (wordsOf c)))
-    × (T (wordBufferFine a && bufferFine c) → (listCall a c ≡ listAnswer (wordsOf a) (length c)) × (listCallLeaves a c ≡ listLeaves (wordsOf a) c))
-calls-are-the-words a b c = (
-  λ fine. (read-call a b c fine, read-call-leaves a b c fine),
-  λ fine. (write-call a b c fine, write-call-leaves a b c fine),
-  λ fine. (list-call a c fine, list-call-leaves a c fine),
-)
+pub calls-are-the-words : (a b c : List ℕ) → AsWords a b c
+calls-are-the-words a b c =
+    record {
+      read = read-call a b c;
+      read-left = read-call-leaves a b c;
+      write = write-call a b c;
+      write-left = write-call-leaves a b c;
+      list = list-call a c;
+      list-left = list-call-leaves a c;
+    }
 
 -- "words are 32 bits little-endian": words of 32 bits and bytes, four for each word, are the same thing
 pub words-are-their-bytes : (ws bs : List ℕ)
@@ -271,11 +303,12 @@ pub words-are-their-bytes : (ws bs : List ℕ)
     × (All Byte bs → length bs % 4 ≡ 0 → bytesOf (wordsOf bs) ≡ bs)
 words-are-their-bytes ws bs = (words-bytes ws, bytes-words bs)
 
+-- the number's reason and place are the answer's
+abbrev Tells : Answer → Type 0
+Tells a = (numberOf a % 256 ≡ a .reason) × (numberOf a / 256 ≡ a .place)
+
 -- "place × 256 + reason": the number tells both
-pub number-tells-both : (a b c : List ℕ)
-    → ((numberOf (readCall a b c) % 256 ≡ readCall a b c .reason) × (numberOf (readCall a b c) / 256 ≡ readCall a b c .place))
-    × ((numberOf (writeCall a b c) % 256 ≡ writeCall a b c .reason) × (numberOf (writeCall a b c) / 256 ≡ writeCall a b c .place))
-    × ((numberOf (listCall a c) % 256 ≡ listCall a c .reason) × (numberOf (listCall a c) / 256 ≡ listCall a c .place))
+pub number-tells-both : (a b c : List ℕ) → Tells (readCall a b c) × Tells (writeCall a b c) × Tells (listCall a c)
 number-tells-both a b c = (
   number-tells (readCall a b c) (read-call-range a b c),
   number-tells (writeCall a b c) (write-call-range a b c),

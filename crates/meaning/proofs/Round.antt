@@ -29,9 +29,9 @@ use Rattle.meaning.specs.Reasons.{CellFine}
 use Rattle.meaning.proofs.Verdicts.{fits-fine}
 use Rattle.meaning.proofs.Stored.{stored}
 use Rattle.meaning.proofs.Writes.{writes-of-cut}
-use Rattle.meaning.proofs.Exactly.{accepted-cut}
+use Rattle.meaning.proofs.Exactly.{read-told, accepted-parts, accepted-cut}
 use Rattle.meaning.proofs.Writing.{written-permitted, written-words, written-writes}
-use Rattle.meaning.proofs.States.{Formed, Sound, FineWrite, sound-writes, formed-writes, empty-sound, rebuilt}
+use Rattle.meaning.proofs.States.{Formed, formed-iff, Sound, FineWrite, sound-writes, formed-writes, empty-sound, rebuilt}
 
 -- ---- there and back
 
@@ -59,7 +59,7 @@ sound-takes g st s =
 
 -- ---- what the reader leaves of a well-formed state
 
-packets-low : (g : Terms) (ps : List (List ℕ)) → All (Packet g) ps → All (λ w. w .cell .0 < cells) (allWrites ps)
+pub packets-low : (g : Terms) (ps : List (List ℕ)) → All (Packet g) ps → All (λ w. w .cell .0 < cells) (allWrites ps)
 packets-low g ps a = stored g (λ (w : Write). w .cell .0 < cells) (λ (w : ℕ). Unit {0}) (λ c v l n s. l .0) (λ c v l n s. l .0) ps a (all-unit (join ps))
 
 left-formed : (batch st : List ℕ) (g : Terms) (a : Answer) → (a .reason ≡ 0 → Cut g batch) → (b : Bool) → eqb (a .reason) 0 ≡ b → Formed st
@@ -68,6 +68,9 @@ left-formed batch st g a cut true e f =
     let c = cut (eqb-true (a .reason) 0 e) in
     rw (writes-of-cut g batch c) (formed-writes st (allWrites (c .packets)) (packets-low g (c .packets) (c .permitted)) f)
 left-formed batch st g a cut false e f = f
+
+pub accepted-formed : (batch grants st : List ℕ) → readAnswer batch grants st .reason ≡ 0 → Formed st
+accepted-formed batch grants st e = formed-iff st .0 (accepted-parts batch grants st (read-told batch grants st) e .0)
 
 pub leaves-formed : (batch grants st : List ℕ) → Formed st → Formed (readLeaves batch grants st)
 unfolding readLeaves

@@ -35,6 +35,10 @@ abbrev pub Harmless : List Grant → List Grant → ℕ → ℕ → Type 0
 Harmless ours theirs role a =
     (x y : Grant) → List·Memᴰ x ours → Admits x role a → List·Memᴰ y theirs → (b : ℕ) → Touches a (x .reach) b → ¬ Contains y b
 
+-- some grant of ours admits the address, and it is harmless
+abbrev pub Safe : List Grant → List Grant → ℕ → ℕ → Type 0
+Safe ours theirs role a = Inside ours role a × Harmless ours theirs role a
+
 -- a property of the address that a write stores, where it stores one
 abbrev pub OfAddress : (ℕ → ℕ → Type 0) → Held → Type 0
 OfAddress P nothing = Unit {0}
