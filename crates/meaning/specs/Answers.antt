@@ -66,6 +66,7 @@ success = 0
 
 -- ---- answers
 
+-- "A refusal gives the reason and place"
 abbrev pub answer : ℕ → ℕ → Answer
 answer r p = record { reason = r; place = p }
 

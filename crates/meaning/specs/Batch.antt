@@ -56,6 +56,7 @@ allowed s = eqb (paraAdr s) 0 && (eqb (paraOS s) 0 && typeAllowed (paraType s) (
 abbrev pub named : ℕ → ℕ → Found
 named s p = find3D (paraType s) (paraSubType s) (subAddress p)
 
+-- a parameter names a register of the table, and its data may stand there
 abbrev pub ParameterStands : Terms → ℕ → ℕ → Type 0
 ParameterStands g s p = Stands g (named s p) (data24 p)
 

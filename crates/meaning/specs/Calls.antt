@@ -17,34 +17,42 @@ use Rattle.meaning.specs.Lister.{listing, listAnswer}
 abbrev pub mostBytes : ℕ
 mostBytes = 65536
 
+-- no "buffer over 65,536 bytes"
 unfoldable pub bufferFine : List ℕ → Bool
 bufferFine b = leb (length b) mostBytes
 
+-- nor "a word buffer not a multiple of 4"
 unfoldable pub wordBufferFine : List ℕ → Bool
 wordBufferFine b = bufferFine b && eqb (length b % 4) 0
 
 -- ---- read
 
+-- the answer on three buffers of words: batch, grants and state. "Order: 13, 1, 2; .."
 unfoldable pub readCall : List ℕ → List ℕ → List ℕ → Answer
 readCall batch grants st =
     provided (every wordBufferFine (batch ∷ grants ∷ st ∷ [])) badBuffer (readAnswer (wordsOf batch) (wordsOf grants) (wordsOf st))
 
+-- the bytes of the state after the call
 unfoldable pub readCallLeaves : List ℕ → List ℕ → List ℕ → List ℕ
 readCallLeaves batch grants st = settle (readCall batch grants st) (bytesOf (readLeaves (wordsOf batch) (wordsOf grants) (wordsOf st))) st
 
 -- ---- write
 
+-- the answer on three buffers of words: state, grants and output, whose room is counted in words
 unfoldable pub writeCall : List ℕ → List ℕ → List ℕ → Answer
 writeCall st grants out =
     provided (every wordBufferFine (st ∷ grants ∷ out ∷ [])) badBuffer (writeAnswer (wordsOf st) (wordsOf grants) (length out / 4))
 
+-- the bytes of the output after the call
 unfoldable pub writeCallLeaves : List ℕ → List ℕ → List ℕ → List ℕ
 writeCallLeaves st grants out = settle (writeCall st grants out) (over (bytesOf (written (wordsOf st))) out) out
 
 -- ---- list
 
+-- the answer on a buffer of words, the state, and one of bytes, the output
 unfoldable pub listCall : List ℕ → List ℕ → Answer
 listCall st out = provided (wordBufferFine st && bufferFine out) badBuffer (listAnswer (wordsOf st) (length out))
 
+-- the bytes of the output after the call
 unfoldable pub listCallLeaves : List ℕ → List ℕ → List ℕ
 listCallLeaves st out = settle (listCall st out) (over (listing (wordsOf st)) out) out

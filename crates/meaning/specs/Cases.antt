@@ -30,16 +30,19 @@ accepted grants s w c v = record { batch = 0x0002043C ∷ s ∷ w ∷ []; grants
 abbrev pub refused : List ℕ → ℕ → ℕ → ℕ → Case
 refused grants s w r = record { batch = 0x0002043C ∷ s ∷ w ∷ []; grants = grants; gives = answer r 2; leaves = empty }
 
--- K1's grant with a reach, and the three settings
+-- the grant of K1 and K2, with its reach
 abbrev pub grant : ℕ → List ℕ
 grant reach = 1 ∷ 0x00100000 ∷ 0x00080000 ∷ reach ∷ []
 
+-- "In type 01": setting 00010000
 abbrev pub type01 : ℕ
 type01 = 0x00010000
 
+-- sample 3: "Setting 23020000"
 abbrev pub sample3 : ℕ
 sample3 = 0x23020000
 
+-- stage 3: "Setting 03020000"
 abbrev pub stage3 : ℕ
 stage3 = 0x03020000
 
@@ -78,6 +81,7 @@ slips =
     ∷ record { batch = 0x0003043C ∷ type01 ∷ 0x3F000800 ∷ []; grants = []; gives = answer 7 2; leaves = empty }
     ∷ []
 
+-- what a case says of the definitions
 abbrev pub Holds : Case → Type 0
 Holds c = (readAnswer (c .batch) (c .grants) empty ≡ c .gives) × (readLeaves (c .batch) (c .grants) empty ≡ c .leaves)
 
@@ -85,5 +89,6 @@ Holds c = (readAnswer (c .batch) (c .grants) empty ≡ c .gives) × (readLeaves 
 abbrev pub bytesIn : Format → List ℕ
 bytesIn f = map (λ (x : ℕ). f .code * 8 + x) (f .with)
 
+-- "That is 39"
 unfoldable pub formatBytes : List ℕ
 formatBytes = join (map bytesIn formats)

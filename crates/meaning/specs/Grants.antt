@@ -15,6 +15,7 @@ pub record Grant : Type 0 where
   pub length : ℕ
   pub reach : ℕ
 
+-- the whole grants of a list of words
 abbrev pub grantsOf : List ℕ → List Grant
 grantsOf [] = []
 grantsOf (r ∷ []) = []
@@ -30,6 +31,7 @@ grantFine g = within 1 3 (g .role) && (leb (g .start + g .length) (2 ^ 32) && le
 abbrev pub mostGrants : ℕ
 mostGrants = 64
 
+-- the rules of the list: whole grants, at most 64 of them, and each fine
 unfoldable pub grantsFine : List ℕ → Bool
 grantsFine gs = eqb (length gs % 4) 0 && (leb (length gs / 4) mostGrants && every grantFine (grantsOf gs))
 

@@ -34,6 +34,7 @@ decimal n =
 
 -- ---- lines, "each line ended by 0Ah"
 
+-- as `reg=01.00.50 val=00001000`
 abbrev pub line3D : ℕ → ℕ → SubAddress → ℕ → List ℕ
 line3D t u a v = ascii "reg=" ++ (hex 2 t ++ (ascii "." ++ (hex 2 u ++ (ascii "." ++ (hex 2 (a .0) ++ (ascii " val=" ++ (hex 8 v ++ ascii "\n")))))))
 
@@ -46,6 +47,7 @@ unfoldable pub linesOf : {Name : Type 0} → (Name → ℕ → List ℕ) → Lis
 linesOf line st [] = []
 linesOf line st (r ∷ rs) = ifMarked (markAt st (r .cell)) (line (r .name) (valueAt st (r .cell))) (linesOf line st rs)
 
+-- the lines of the groups, one group after another
 unfoldable pub lines3D : List ℕ → List Group → List (List ℕ)
 lines3D st [] = []
 lines3D st (g ∷ gs) = linesOf (line3D (g .type) (g .subType)) st (g .rows) ++ lines3D st gs
@@ -54,11 +56,13 @@ lines3D st (g ∷ gs) = linesOf (line3D (g .type) (g .subType)) st (g .rows) ++ 
 unfoldable pub cellLines : List ℕ → List (List ℕ)
 cellLines st = lines3D st groups ++ linesOf lineVideo st videoRows
 
+-- "The listing is key=value lines, the count in decimal without leading zeros, .."
 unfoldable pub listing : List ℕ → List ℕ
 listing st = ascii "cells=" ++ (decimal (length (cellLines st)) ++ (ascii "\n" ++ join (cellLines st)))
 
 -- ---- the call: "lister 1 then 11"
 
+-- the answer, given room for so many bytes
 unfoldable pub listAnswer : List ℕ → ℕ → Answer
 listAnswer st room =
     provided (wellFormed st) badState (provided (leb (length (listing st)) room) noRoom (answer success (length (listing st))))

@@ -13,10 +13,11 @@ pub record Admits (x : Grant) (role a : ℕ) : Type 0 where
   pub from : x .start ≤ a
   pub to : a + x .reach ≤ x .start + x .length
 
--- an address with a reach touches a byte; a grant's range has it
+-- an address with a reach touches a byte
 abbrev pub Touches : ℕ → ℕ → ℕ → Type 0
 Touches a reach b = (a ≤ b) × (b < a + reach)
 
+-- a grant's range has a byte
 abbrev pub Contains : Grant → ℕ → Type 0
 Contains x b = (x .start ≤ b) × (b < x .start + x .length)
 
@@ -44,5 +45,6 @@ abbrev pub OfAddress : (ℕ → ℕ → Type 0) → Held → Type 0
 OfAddress P nothing = Unit {0}
 OfAddress P (address role a) = P role a
 
+-- of a write, by the register of its cell
 abbrev pub Stores : (ℕ → ℕ → Type 0) → Write → Type 0
 Stores P w = OfAddress P (registerAt (w .cell) .holds (w .value))

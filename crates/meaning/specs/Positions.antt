@@ -28,10 +28,12 @@ after Setting w = Parameter w
 after (Parameter s) w = Parameter s
 after (Video o) w = Video (following o)
 
+-- the next position, after a word w at a position
 unfoldable pub nextKind : Kind → ℕ → ℕ → Kind
 nextKind kind zero w = kindOf w
 nextKind kind (suc k) w = after kind w
 
+-- "n words follow"
 unfoldable pub nextLeft : ℕ → ℕ → ℕ
 nextLeft zero w = count w
 nextLeft (suc k) w = k
@@ -42,15 +44,17 @@ positionFrom kind k ws zero = record { kind = kind; left = k }
 positionFrom kind k [] (suc i) = record { kind = kind; left = k }
 positionFrom kind k (w ∷ ws) (suc i) = positionFrom (nextKind kind k w) (nextLeft k w) ws i
 
+-- the position of word i of a batch, which begins with a header
 unfoldable pub positionAt : List ℕ → ℕ → Position
 positionAt ws i = positionFrom Setting 0 ws i
 
--- the register that a word of a packet's body goes to, and the value that it carries there
+-- the register that a word of a packet's body goes to
 unfoldable pub goes : Kind → ℕ → Found
 goes Setting w = Missing
 goes (Parameter s) w = named s w
 goes (Video o) w = findVideo o
 
+-- and the value that it carries there: a parameter's data bits, the whole of a video word
 unfoldable pub carries : Kind → ℕ → ℕ
 carries Setting w = w
 carries (Parameter s) w = data24 w
@@ -61,9 +65,11 @@ unfoldable pub writeAt : Kind → ℕ → ℕ → List Write
 writeAt kind zero w = []
 writeAt kind (suc k) w = writeTo (goes kind w) (carries kind w)
 
+-- of the words from a position on
 unfoldable pub writesFrom : Kind → ℕ → List ℕ → List Write
 writesFrom kind k [] = []
 writesFrom kind k (w ∷ ws) = writeAt kind k w ++ writesFrom (nextKind kind k w) (nextLeft k w) ws
 
+-- of a whole batch
 unfoldable pub writesOf : List ℕ → List Write
 writesOf ws = writesFrom Setting 0 ws

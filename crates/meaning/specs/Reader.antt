@@ -42,6 +42,7 @@ reasonVideo h =
     unless (isFound (findVideo (videoOffset h))) badOffset
     (unless (leb 1 (count h) && runIn (videoOffset h) (count h)) badCount success)
 
+-- 3 and 4 of a header
 unfoldable pub headerReason : ℕ → ℕ
 headerReason h = cond (eqb (offset h) offset3D) (reason3D h) (reasonVideo h)
 
@@ -82,15 +83,18 @@ abbrev pub ended : ℕ → Answer
 ended zero = answer success 0
 ended (suc k) = answer endsInside 0
 
+-- the words from a position on
 unfoldable pub run : Terms → Kind → ℕ → List ℕ → Answer
 run g kind k [] = ended k
 run g kind k (w ∷ ws) = follow (judge g kind k w) (run g (nextKind kind k w) (nextLeft k w) ws)
 
+-- a batch begins with a header
 unfoldable pub batchAnswer : Terms → List ℕ → Answer
 batchAnswer g ws = run g Setting 0 ws
 
 -- ---- the call: "Order: 13, 1, 2; then reader words from the front"
 
+-- the answer: 1, 2, then what the words give
 unfoldable pub readAnswer : List ℕ → List ℕ → List ℕ → Answer
 readAnswer batch grants st =
     provided (wellFormed st) badState (provided (grantsFine grants) badGrants (batchAnswer (termsOf grants) batch))

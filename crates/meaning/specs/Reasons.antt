@@ -65,6 +65,7 @@ NoneBefore g ws n = (i : ℕ) → i < n → (r : ℕ) → ¬ GivenAt g ws i r
 
 -- ---- the reader: reason r at place p
 
+-- "Given when" and "Place", for batch, grants and state as they were handed in
 pub data Reads (batch grants st : List ℕ) : ℕ → ℕ → Type 0 where
   -- "state not 202 words or not well-formed"
   bad-state : ¬ T (wellFormed st) → Reads batch grants st 1 0
@@ -91,6 +92,7 @@ pub record MayHold (g : Terms) (c : Cell) (v : ℕ) : Type 0 where
 abbrev pub CellFine : Terms → List ℕ → Cell → Type 0
 CellFine g st c = 0 < markAt st c → MayHold g c (valueAt st c)
 
+-- for state and grants as they were handed in
 pub data Writes (st grants : List ℕ) (room : ℕ) : ℕ → ℕ → Type 0 where
   bad-state : ¬ T (wellFormed st) → Writes st grants room 1 0
   bad-grants : T (wellFormed st) → ¬ T (grantsFine grants) → Writes st grants room 2 0
@@ -106,6 +108,7 @@ pub data Writes (st grants : List ℕ) (room : ℕ) : ℕ → ℕ → Type 0 whe
 
 -- ---- the lister, given room for so many bytes
 
+-- for the state as it was handed in
 pub data Lists (st : List ℕ) (room : ℕ) : ℕ → ℕ → Type 0 where
   bad-state : ¬ T (wellFormed st) → Lists st room 1 0
   no-room : T (wellFormed st) → room < length (listing st) → Lists st room 11 0

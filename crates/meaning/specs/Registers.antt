@@ -17,6 +17,7 @@ use Rattle.meaning.specs.Words.{bits}
 abbrev pub cells : ℕ
 cells = 101
 
+-- the cell of a number
 abbrev pub cell : ℕ → Cell
 cell n = record { 0 = n }
 
@@ -28,6 +29,7 @@ pub record Format : Type 0 where
   pub with : List ℕ
   pub bytes : ℕ
 
+-- a row of them
 abbrev pub format : ℕ → List ℕ → ℕ → Format
 format c w b = record { code = c; with = w; bytes = b }
 
@@ -48,6 +50,7 @@ formats =
     ∷ format 0b11110 (4 ∷ 5 ∷ []) 4
     ∷ []
 
+-- the first row that has the byte
 unfoldable pub bytesAmong : List Format → ℕ → ℕ
 bytesAmong [] b = 0
 bytesAmong (f ∷ fs) b = let more = bytesAmong fs b in cond (eqb (bits 7 3 b) (f .code) && oneOf (bits 2 0 b) (f .with)) (f .bytes) more
@@ -159,6 +162,7 @@ pub data Held : Type 0 where
   nothing : Held
   address : ℕ → ℕ → Held
 
+-- "any", or a rule that speaks of no address
 abbrev pub noAddress : ℕ → Held
 noAddress v = nothing
 
@@ -191,13 +195,15 @@ pub record Group : Type 0 where
   pub subType : ℕ
   pub rows : List (Row SubAddress)
 
+-- a group of rows
 abbrev pub group : ℕ → ℕ → List (Row SubAddress) → Group
 group t u rs = record { type = t; subType = u; rows = rs }
 
--- "A 3D value is the 24 data bits"; a video value is a word
+-- a row: cell, name, must be clear, values, address. "A 3D value is the 24 data bits"
 abbrev pub row3D : ℕ → ℕ → ℕ → (ℕ → Bool) → (ℕ → Held) → Row SubAddress
 row3D c a m f h = record { cell = cell c; name = record { 0 = a }; register = record { width = 24; clear = m; values = f; holds = h } }
 
+-- a video value is a word
 abbrev pub rowVideo : ℕ → ℕ → ℕ → (ℕ → Bool) → (ℕ → Held) → Row VideoOffset
 rowVideo c o m f h = record { cell = cell c; name = record { 0 = o }; register = record { width = 32; clear = m; values = f; holds = h } }
 
@@ -255,14 +261,17 @@ videoRows =
 
 -- ---- the register of a name, and of a cell
 
+-- a register was found
 abbrev pub isFound : Found → Bool
 isFound (At c) = true
 isFound Missing = false
 
+-- the cell of the first row whose name passes the test
 unfoldable pub find : {Name : Type 0} → (Name → Bool) → List (Row Name) → Found
 find is [] = Missing
 find is (r ∷ rs) = let more = find is rs in cond (is (r .name)) (At (r .cell)) more
 
+-- the same among the rows of the group of a type and sub-type
 unfoldable pub findAmong : ℕ → ℕ → SubAddress → List Group → Found
 findAmong t u a [] = Missing
 findAmong t u a (g ∷ gs) =
@@ -273,6 +282,7 @@ findAmong t u a (g ∷ gs) =
 unfoldable pub find3D : ℕ → ℕ → SubAddress → Found
 find3D t u a = findAmong t u a groups
 
+-- a video register is named by its offset
 unfoldable pub findVideo : VideoOffset → Found
 findVideo o = find (λ n. eqb (o .0) (n .0)) videoRows
 
@@ -281,6 +291,7 @@ unfoldable pub registerAmong : {Name : Type 0} → Cell → List (Row Name) → 
 registerAmong c [] other = other
 registerAmong c (r ∷ rs) other = let more = registerAmong c rs other in cond (eqb (c .0) (r .cell .0)) (r .register) more
 
+-- what the register of a cell may hold; a number that is no cell has no register, and nothing asks for it
 unfoldable pub registerAt : Cell → Register
 registerAt c =
     registerAmong c (join (map (λ (g : Group). g .rows) groups))

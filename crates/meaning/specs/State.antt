@@ -23,9 +23,11 @@ use Rattle.meaning.specs.Batch.{offset3D, named, Cut}
 abbrev pub stateWords : ℕ
 stateWords = 202
 
+-- of a cell: its value
 abbrev pub valueAt : List ℕ → Cell → ℕ
 valueAt st c = getD st (c .0) 0
 
+-- and its mark
 abbrev pub markAt : List ℕ → Cell → ℕ
 markAt st c = getD st (cells + c .0) 0
 
@@ -33,6 +35,7 @@ markAt st c = getD st (cells + c .0) 0
 unfoldable pub cellFormed : List ℕ → Cell → Bool
 cellFormed st c = leb (markAt st c) 1 && implies (eqb (markAt st c) 0) (eqb (valueAt st c) 0)
 
+-- "Well-formed": 202 words, and each cell is
 unfoldable pub wellFormed : List ℕ → Bool
 wellFormed st = eqb (length st) stateWords && every (λ n. cellFormed st (cell n)) (from 0 cells)
 
@@ -42,6 +45,7 @@ empty = replicate stateWords 0
 
 -- ---- writes
 
+-- a value for a cell
 pub record Write : Type 0 where
   pub cell : Cell
   pub value : ℕ
@@ -57,6 +61,7 @@ applyAll st (w ∷ ws) = applyAll (apply st w) ws
 
 -- ---- what a packet writes
 
+-- a value for a register that the table has is a write
 abbrev pub writeTo : Found → ℕ → List Write
 writeTo (At c) v = record { cell = c; value = v } ∷ []
 writeTo Missing v = []
@@ -66,6 +71,7 @@ unfoldable pub writes3D : ℕ → List ℕ → List Write
 writes3D s [] = []
 writes3D s (p ∷ ps) = writeTo (named s p) (data24 p) ++ writes3D s ps
 
+-- a word for each register of the run
 unfoldable pub writesRun : VideoOffset → List ℕ → List Write
 writesRun o [] = []
 writesRun o (v ∷ vs) = writeTo (findVideo o) v ++ writesRun (following o) vs
@@ -76,10 +82,12 @@ bodyWrites true o [] = []
 bodyWrites true o (s ∷ ps) = writes3D s ps
 bodyWrites false o vs = writesRun o vs
 
+-- of a whole packet
 unfoldable pub packetWrites : List ℕ → List Write
 packetWrites [] = []
 packetWrites (h ∷ t) = bodyWrites (eqb (offset h) offset3D) (videoOffset h) t
 
+-- of packets, one after another
 unfoldable pub allWrites : List (List ℕ) → List Write
 allWrites [] = []
 allWrites (p ∷ ps) = packetWrites p ++ allWrites ps

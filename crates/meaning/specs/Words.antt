@@ -13,10 +13,11 @@ Word w = w < 2 ^ 32
 abbrev pub bits : ℕ → ℕ → ℕ → ℕ
 bits hi lo w = w / 2 ^ lo % 2 ^ (hi + 1 - lo)
 
--- "A header has the count n in bits 31:16 and a byte offset in bits 15:0"
+-- "A header has the count n in bits 31:16
 unfoldable pub count : ℕ → ℕ
 count h = bits 31 16 h
 
+-- and a byte offset in bits 15:0"
 unfoldable pub offset : ℕ → ℕ
 offset h = bits 15 0 h
 
@@ -28,23 +29,27 @@ videoOffset h = record { 0 = offset h }
 abbrev pub following : VideoOffset → VideoOffset
 following o = record { 0 = o .0 + 4 }
 
--- "The first word is the setting: bits 7:0 HParaAdr and 15:8 HParaOS .. 23:16 HParaType; 31:24 HParaSubType"
+-- "The first word is the setting: bits 7:0 HParaAdr
 unfoldable pub paraAdr : ℕ → ℕ
 paraAdr s = bits 7 0 s
 
+-- and 15:8 HParaOS, both 0 here;
 unfoldable pub paraOS : ℕ → ℕ
 paraOS s = bits 15 8 s
 
+-- 23:16 HParaType;
 unfoldable pub paraType : ℕ → ℕ
 paraType s = bits 23 16 s
 
+-- 31:24 HParaSubType"
 unfoldable pub paraSubType : ℕ → ℕ
 paraSubType s = bits 31 24 s
 
--- "parameters: sub-address in 31:24, data in 23:0"
+-- "parameters: sub-address in 31:24,
 unfoldable pub subAddress : ℕ → SubAddress
 subAddress p = record { 0 = bits 31 24 p }
 
+-- data in 23:0"
 unfoldable pub data24 : ℕ → ℕ
 data24 p = bits 23 0 p
 

@@ -22,10 +22,11 @@ use Rattle.meaning.specs.Reader.{valueReason}
 
 -- ---- the words: "The writer emits, in cell order, .."
 
--- a header of n words, and a setting
+-- a header of n words for an offset
 abbrev pub headerWord : ℕ → ℕ → ℕ
 headerWord n o = n * 2 ^ 16 + o
 
+-- the setting of a type and sub-type; HParaAdr and HParaOS are 0
 abbrev pub settingWord : ℕ → ℕ → ℕ
 settingWord t u = u * 2 ^ 24 + t * 2 ^ 16
 
@@ -44,6 +45,7 @@ abbrev pub packetOf : ℕ → List ℕ → List (List ℕ) → List (List ℕ)
 packetOf s [] more = more
 packetOf s (p ∷ ps) more = (headerWord (length (s ∷ p ∷ ps)) offset3D ∷ s ∷ p ∷ ps) ∷ more
 
+-- of groups, in cell order
 unfoldable pub packets3D : List ℕ → List Group → List (List ℕ)
 packets3D st [] = []
 packets3D st (g ∷ gs) = packetOf (settingWord (g .type) (g .subType)) (parameters st (g .rows)) (packets3D st gs)
@@ -53,14 +55,17 @@ unfoldable pub packetsVideo : List ℕ → List (Row VideoOffset) → List (List
 packetsVideo st [] = []
 packetsVideo st (r ∷ rs) = ifMarked (markAt st (r .cell)) (headerWord 1 (r .name .0) ∷ valueAt st (r .cell) ∷ []) (packetsVideo st rs)
 
+-- 3D packets, then video packets
 unfoldable pub packetsOf : List ℕ → List (List ℕ)
 packetsOf st = packets3D st groups ++ packetsVideo st videoRows
 
+-- the words that are written
 unfoldable pub written : List ℕ → List ℕ
 written st = join (packetsOf st)
 
 -- ---- 12: "a marked cell holds a value that 7, 8 or 9 would refuse, or a 3D value of 2^24 or more"
 
+-- a cell is unmarked, or its value is none of these
 unfoldable pub writable : Terms → List ℕ → Cell → Bool
 writable g st c =
     implies (ltb 0 (markAt st c)) (ltb (valueAt st c) (2 ^ registerAt c .width) && eqb (valueReason g (registerAt c) (valueAt st c)) success)
@@ -72,10 +77,12 @@ lowestBad g st i (suc n) = let more = lowestBad g st (suc i) n in cond (writable
 
 -- ---- the call: "1, 2; .. writer 12 then 11"
 
+-- a bad cell is the answer; where there is none, what comes after
 abbrev pub exceptAt : Found → Answer → Answer
 exceptAt (At c) a = answer notWritable (c .0)
 exceptAt Missing a = a
 
+-- the answer, given room for so many words
 unfoldable pub writeAnswer : List ℕ → List ℕ → ℕ → Answer
 writeAnswer st grants room =
     provided (wellFormed st) badState
