@@ -3,12 +3,12 @@
 -- Assumes nothing.
 use mathlib.Core.Path.{_≡_, refl}
 use mathlib.Core.Logic.{_↔_}
-use mathlib.Core.Bool.{Bool, _&&_, Bool·beq}
+use mathlib.Core.Bool.{Bool, not, _&&_, Bool·beq}
 use mathlib.Core.List.{[], _∷_}
 use Prim.Native.Nat.{ℕ, _<_}
 use native.Mathlib.Omega.{arith}
 use lib.Dec.{T, ltb, eqb}
-use lib.ListN.{length, getD, set}
+use lib.ListN.{length, take, getD, set}
 use mir.Facts.{and-yes, eqb-yes, ltb-yes, yes-ltb}
 use Rattle.laws.specs.Lists.{All, every, some, from}
 use Rattle.laws.specs.Tests.{oneOf}
@@ -25,7 +25,7 @@ use Rattle.meaning.specs.Answers.{answer}
 use Rattle.meaning.specs.Writer.{parameters, packets3D, packetsVideo, packetsOf, written, writable, lowestBad, writeAnswer}
 use Rattle.meaning.specs.Text.{ascii}
 use Rattle.meaning.specs.Lister.{digit, hex, decimal, linesOf, lines3D, cellLines, listing}
-use Rattle.meaning.specs.Cases.{holding, cases, slips, Holds, formatBytes}
+use Rattle.meaning.specs.Cases.{holding, cases, slips, Holds, keeping, breaking, full, formatBytes}
 
 -- "K1 to K12 are one table, with a single proved statement about the definitions over it"
 pub cases-hold : All Holds cases
@@ -62,6 +62,21 @@ bytes-example = refl
 pub listing-example : listing (holding 1 0x001000) ≡ ascii "cells=1\nreg=01.00.50 val=00001000\n"
 unfolding holding empty digit hex decimal linesOf lines3D cellLines listing targetGroup stage sample groups scaler videoRows from
 listing-example = refl
+
+-- "A video line reads `reg=23f0 val=` and eight digits", in lower case
+pub video-line-example : listing (holding 90 0x0009ABC0) ≡ ascii "cells=1\nreg=23f0 val=0009abc0\n"
+unfolding holding empty digit hex decimal linesOf lines3D cellLines listing targetGroup stage sample groups scaler videoRows from
+video-line-example = refl
+
+-- "at most 184 words" and "at most 2,568 bytes": a state with every cell marked needs as many
+pub full-is-the-most : (length (written full) ≡ 184) × (length (listing full) ≡ 2568) × (take 10 (listing full) ≡ ascii "cells=101\n")
+unfolding full digit hex decimal linesOf lines3D cellLines listing parameters packets3D packetsVideo packetsOf written targetGroup stage sample groups scaler videoRows from
+full-is-the-most = (refl, refl, refl)
+
+-- the rules of the grant list, from both sides
+pub grant-rules-hold : T (every grantsFine keeping) × T (every (λ l. not (grantsFine l)) breaking)
+unfolding keeping breaking grantFine grantsFine every
+grant-rules-hold = (tt, tt)
 
 -- ---- the format table
 

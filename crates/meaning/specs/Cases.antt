@@ -1,9 +1,9 @@
--- Document 01's cases K1 to K12 as one table, and the 39 permitted format bytes.
+-- Document 01's cases K1 to K12 as one table; batches for likely slips; grant lists; the 39 permitted format bytes.
 -- Assumes nothing.
-use mathlib.Core.List.{List, [], _∷_, map}
+use mathlib.Core.List.{List, [], _∷_, _++_, map}
 use Prim.Native.Nat.{ℕ, _+_, _*_}
 use mathlib.Core.Path.{_≡_}
-use lib.ListN.{set}
+use lib.ListN.{set, replicate}
 use Rattle.laws.specs.Lists.{join}
 use Rattle.meaning.specs.declared.Answer.{Answer}
 use Rattle.meaning.specs.Registers.{cells, Format, formats}
@@ -84,6 +84,31 @@ slips =
 -- what a case says of the definitions
 abbrev pub Holds : Case → Type 0
 Holds c = (readAnswer (c .batch) (c .grants) empty ≡ c .gives) × (readLeaves (c .batch) (c .grants) empty ≡ c .leaves)
+
+-- both sides of each rule of the grant list: lists that keep the rules
+unfoldable pub keeping : List (List ℕ)
+keeping =
+    []
+    ∷ (1 ∷ 0 ∷ 0 ∷ 1 ∷ [])
+    ∷ (3 ∷ 0 ∷ 0 ∷ 1 ∷ [])
+    ∷ (1 ∷ 0xFFFFFFFF ∷ 1 ∷ 1 ∷ [])
+    ∷ join (replicate 64 (1 ∷ 0 ∷ 0 ∷ 1 ∷ []))
+    ∷ []
+
+-- and lists that break one
+unfoldable pub breaking : List (List ℕ)
+breaking =
+    (1 ∷ 0 ∷ 0 ∷ [])
+    ∷ (0 ∷ 0 ∷ 0 ∷ 1 ∷ [])
+    ∷ (4 ∷ 0 ∷ 0 ∷ 1 ∷ [])
+    ∷ (1 ∷ 0xFFFFFFFF ∷ 2 ∷ 1 ∷ [])
+    ∷ (1 ∷ 0 ∷ 0 ∷ 0 ∷ [])
+    ∷ join (replicate 65 (1 ∷ 0 ∷ 0 ∷ 1 ∷ []))
+    ∷ []
+
+-- a state with every cell marked
+unfoldable pub full : List ℕ
+full = replicate cells 0 ++ replicate cells 1
 
 -- the permitted format bytes: each five-bit code with its three-bit codes
 abbrev pub bytesIn : Format → List ℕ
