@@ -1,2 +1,4 @@
+pub mod Arms
 pub mod Lists
+pub mod Rest
 pub mod Tests

@@ -40,6 +40,11 @@ pub all-both {ℓ} : {A : Type ℓ} (P Q R : A → Type 0) → ((x : A) → P x 
 all-both P Q R h [] a b = tt
 all-both P Q R h (x ∷ xs) a b = (h x (a .0) (b .0), all-both P Q R h xs (a .1) (b .1))
 
+pub every-all {ℓ} : {A : Type ℓ} (f : A → Bool) (xs : List A) → T (every f xs) → All (λ x. T (f x)) xs
+unfolding every
+every-all f [] t = tt
+every-all f (x ∷ xs) t = let both = and-yes (f x) _ t in (both .0, every-all f xs (both .1))
+
 -- ---- numbers in a row
 
 pub every-from : (f : ℕ → Bool) (i n : ℕ) → T (every f (from i n)) → (x : ℕ) → i ≤ x → x < i + n → T (f x)

@@ -41,11 +41,11 @@ found-among t u a i (G ∷ Gs) b =
     (found-of (Wide 24) _ (G .rows) (rows-all (Row3D (G .type) (G .subType)) (Wide 24) (λ j r x. rw (x .numbered) (x .high, x .width)) i (G .rows) (b .0 .rows)))
     (found-among t u a (i + length (G .rows)) Gs (b .1))
 
-found-3D : (t u : ℕ) (a : SubAddress) → Of (Wide 24) (find3D t u a)
+pub found-3D : (t u : ℕ) (a : SubAddress) → Of (Wide 24) (find3D t u a)
 unfolding find3D
 found-3D t u a = found-among t u a 0 groups table-3D
 
-found-video : (o : VideoOffset) → Of (Wide 32) (findVideo o)
+pub found-video : (o : VideoOffset) → Of (Wide 32) (findVideo o)
 unfolding findVideo
 found-video o = found-of (Wide 32) _ videoRows (rows-all RowVideo (Wide 32) (λ j r x. rw (x .numbered) (x .high, x .width)) firstVideo videoRows table-video)
 

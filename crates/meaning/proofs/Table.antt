@@ -52,11 +52,12 @@ firstVideo = 84
 
 -- ---- the tests
 
-isAt : ℕ → Found → Bool
+-- a lookup found the cell of a number
+unfoldable pub isAt : ℕ → Found → Bool
 isAt i (At c) = eqb (c .0) i
 isAt i Missing = false
 
-is-at : (i : ℕ) (f : Found) → T (isAt i f) → f ≡ At (cell i)
+pub is-at : (i : ℕ) (f : Found) → T (isAt i f) → f ≡ At (cell i)
 unfolding isAt
 is-at i (At c) t = ap (λ (n : ℕ). At (cell n)) (eqb-yes t)
 is-at i Missing t = absurd t

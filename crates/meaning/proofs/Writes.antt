@@ -15,29 +15,26 @@ use Rattle.meaning.specs.Registers.{findVideo}
 use Rattle.meaning.specs.Grants.{Terms}
 use Rattle.meaning.specs.Batch.{offset3D, named, Packet, Cut}
 use Rattle.meaning.specs.State.{Write, writeTo, writes3D, writesRun, bodyWrites, packetWrites, allWrites}
-use Rattle.meaning.specs.Positions.{kindOf, after, nextKind, nextLeft, goes, carries, writeAt, writesFrom, writesOf}
+use Rattle.meaning.specs.Positions.{kindOf, after, nextKind, nextLeft, goes, carries, writeAt, writesIn, writesFrom, writesOf}
 use Rattle.meaning.proofs.Cuts.{Headed, headed, head-of}
 
--- the writes of a body's words
-walk : Kind → List ℕ → List Write
-walk kind [] = []
-walk kind (w ∷ ws) = writeTo (goes kind w) (carries kind w) ++ walk (after kind w) ws
+-- ---- the words of one packet's body
 
-walk-parameters : (s : ℕ) (ps : List ℕ) → walk (Parameter s) ps ≡ writes3D s ps
-unfolding walk writes3D goes carries after
-walk-parameters s [] = refl
-walk-parameters s (p ∷ ps) = ap (λ (x : List Write). writeTo (named s p) (data24 p) ++ x) (walk-parameters s ps)
+pub in-parameters : (s : ℕ) (ps : List ℕ) → writesIn (Parameter s) ps ≡ writes3D s ps
+unfolding writesIn writes3D goes carries after
+in-parameters s [] = refl
+in-parameters s (p ∷ ps) = ap (λ (x : List Write). writeTo (named s p) (data24 p) ++ x) (in-parameters s ps)
 
-walk-run : (o : VideoOffset) (vs : List ℕ) → walk (Video o) vs ≡ writesRun o vs
-unfolding walk writesRun goes carries after
-walk-run o [] = refl
-walk-run o (v ∷ vs) = ap (λ (x : List Write). writeTo (findVideo o) v ++ x) (walk-run (following o) vs)
+pub in-run : (o : VideoOffset) (vs : List ℕ) → writesIn (Video o) vs ≡ writesRun o vs
+unfolding writesIn writesRun goes carries after
+in-run o [] = refl
+in-run o (v ∷ vs) = ap (λ (x : List Write). writeTo (findVideo o) v ++ x) (in-run (following o) vs)
 
-walk-body : (b : Bool) (h : ℕ) (t : List ℕ) → walk (cond b Setting (Video (videoOffset h))) t ≡ bodyWrites b (videoOffset h) t
-unfolding walk goes carries after
-walk-body true h [] = refl
-walk-body true h (s ∷ ps) = walk-parameters s ps
-walk-body false h t = walk-run (videoOffset h) t
+in-body : (b : Bool) (h : ℕ) (t : List ℕ) → writesIn (cond b Setting (Video (videoOffset h))) t ≡ bodyWrites b (videoOffset h) t
+unfolding writesIn goes carries after
+in-body true h [] = refl
+in-body true h (s ∷ ps) = in-parameters s ps
+in-body false h t = in-run (videoOffset h) t
 
 -- between packets the kind does not matter
 between : (k m : Kind) (ws : List ℕ) → writesFrom k zero ws ≡ writesFrom m zero ws
@@ -45,8 +42,8 @@ unfolding writesFrom writeAt nextKind nextLeft
 between k m [] = refl
 between k m (w ∷ ws) = refl
 
-from-body : (kind : Kind) (t rest : List ℕ) → writesFrom kind (length t) (t ++ rest) ≡ walk kind t ++ writesFrom Setting zero rest
-unfolding writesFrom walk writeAt nextKind nextLeft
+from-body : (kind : Kind) (t rest : List ℕ) → writesFrom kind (length t) (t ++ rest) ≡ writesIn kind t ++ writesFrom Setting zero rest
+unfolding writesFrom writesIn writeAt nextKind nextLeft
 from-body kind [] rest = between kind Setting rest
 from-body kind (w ∷ t) rest =
     ap (λ (x : List Write). writeTo (goes kind w) (carries kind w) ++ x) (from-body (after kind w) t rest)
@@ -57,7 +54,7 @@ unfolding writesFrom writeAt nextKind nextLeft packetWrites kindOf
 from-packet rest (headed h t n) =
     ap (λ (k : ℕ). writesFrom (kindOf h) k (t ++ rest)) (sym n)
     ∙ from-body (kindOf h) t rest
-    ∙ ap (λ (x : List Write). x ++ writesFrom Setting zero rest) (walk-body (eqb (offset h) offset3D) h t)
+    ∙ ap (λ (x : List Write). x ++ writesFrom Setting zero rest) (in-body (eqb (offset h) offset3D) h t)
 
 from-packets : (g : Terms) (ps : List (List ℕ)) → All (Packet g) ps → writesFrom Setting zero (join ps) ≡ allWrites ps
 unfolding writesFrom allWrites

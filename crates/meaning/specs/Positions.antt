@@ -6,17 +6,13 @@ use Prim.Native.Nat.{ℕ, zero, suc}
 use lib.Dec.{eqb}
 use Rattle.meaning.specs.declared.Kind.{Kind}
 use Rattle.meaning.specs.declared.Kind.the-variants.{Setting, Parameter, Video}
+use Rattle.meaning.specs.declared.Position.{Position}
 use Rattle.meaning.specs.declared.Found.{Found}
 use Rattle.meaning.specs.declared.Found.the-variants.{Missing}
 use Rattle.meaning.specs.Words.{count, offset, videoOffset, following, data24}
 use Rattle.meaning.specs.Registers.{findVideo}
 use Rattle.meaning.specs.Batch.{offset3D, named}
 use Rattle.meaning.specs.State.{Write, writeTo}
-
--- The position of a word: how many words the open packet still wants, 0 if a header is next, and else of what kind the next is.
-pub record Position : Type 0 where
-  pub kind : Kind
-  pub left : ℕ
 
 -- after a header
 unfoldable pub kindOf : ℕ → Kind
@@ -64,6 +60,11 @@ carries (Video o) w = w
 unfoldable pub writeAt : Kind → ℕ → ℕ → List Write
 writeAt kind zero w = []
 writeAt kind (suc k) w = writeTo (goes kind w) (carries kind w)
+
+-- of words of one packet's body
+unfoldable pub writesIn : Kind → List ℕ → List Write
+writesIn kind [] = []
+writesIn kind (w ∷ ws) = writeTo (goes kind w) (carries kind w) ++ writesIn (after kind w) ws
 
 -- of the words from a position on
 unfoldable pub writesFrom : Kind → ℕ → List ℕ → List Write

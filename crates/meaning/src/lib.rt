@@ -22,6 +22,12 @@ pub enum Kind {
     Video(VideoOffset),
 }
 
+// Where a word of a batch stands: how many words the open packet still wants, 0 if a header is next, and else of what kind the next is.
+pub struct Position {
+    pub kind: Kind,
+    pub left: usize,
+}
+
 // A reason, 0 for success, and a place.
 pub struct Answer {
     pub reason: u32,

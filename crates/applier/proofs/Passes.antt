@@ -1,0 +1,166 @@
+-- A pass over words that writes something for each: one law for every such loop, and the two kinds of body as such passes.
+-- Assumes nothing.
+use mathlib.Core.Path.{_≡_, refl, sym, ap, _∙_}
+use mathlib.Core.List.{List, [], _∷_, _++_, append-assoc}
+use Prim.Native.Nat.{ℕ, zero, suc, _+_, _*_, _-_, _≤_, _<_}
+use native.Mathlib.Omega.{arith}
+use lib.ListN.{length, getD, take, drop, drop-of-length-le}
+use lib.Seq.{take-all}
+use Rattle.laws.proofs.Rest.{rest}
+use Rattle.meaning.specs.declared.Cell.{Cell}
+use Rattle.meaning.specs.declared.SubAddress.{SubAddress}
+use Rattle.meaning.specs.declared.VideoOffset.{VideoOffset}
+use Rattle.meaning.specs.declared.Found.{Found}
+use Rattle.meaning.specs.declared.Found.the-variants.{At, Missing}
+use Rattle.meaning.specs.declared.Kind.{Kind}
+use Rattle.meaning.specs.declared.Kind.the-variants.{Setting, Parameter, Video}
+use Rattle.meaning.specs.Words.{count, following, paraType, paraSubType, subAddress, data24}
+use Rattle.meaning.specs.Registers.{cells, find3D, findVideo}
+use Rattle.meaning.specs.Batch.{named}
+use Rattle.meaning.specs.State.{Write, apply, applyAll, writeTo, writes3D, writesRun}
+use Rattle.meaning.specs.Positions.{kindOf, after, nextKind, nextLeft, goes, carries, writeAt, writesIn, writesFrom}
+use Rattle.meaning.proofs.States.{applied-append}
+use Rattle.meaning.proofs.Writes.{in-parameters, in-run}
+use Rattle.meaning.proofs.Table.{Of}
+use Rattle.meaning.proofs.Stored.{Wide, found-3D, found-video}
+use Rattle.positions.specs.Stretches.{afterAll}
+use Rattle.positions.proofs.Stretches.{part, part-length}
+
+-- ---- one write
+
+pub inside-at : {f : Found} {c : Cell} → f ≡ At c → Of (λ d. d .0 < cells) f → c .0 < cells
+inside-at e q = rw e at q
+
+-- the cells that lookups find are cells of the state
+inside : (n : ℕ) (f : Found) → Of (Wide n) f → Of (λ c. c .0 < cells) f
+inside n (At c) w = w .0
+inside n Missing w = tt
+
+pub inside-3D : (t u : ℕ) (a : SubAddress) {f : Found} → f ≡ find3D t u a → Of (λ c. c .0 < cells) f
+inside-3D t u a e = rw e (inside 24 (find3D t u a) (found-3D t u a))
+
+pub inside-video : (o : VideoOffset) {f : Found} → f ≡ findVideo o → Of (λ c. c .0 < cells) f
+inside-video o e = rw e (inside 32 (findVideo o) (found-video o))
+
+module _ (st : List ℕ) (v : ℕ) {f : Found} where
+  pub stored-at : {c : Cell} {left : List ℕ} → f ≡ At c → left ≡ apply st (record { cell = c; value = v }) → left ≡ applyAll st (writeTo f v)
+  unfolding applyAll
+  stored-at e h = rw e h
+
+  pub stored-none : f ≡ Missing → st ≡ applyAll st (writeTo f v)
+  unfolding applyAll
+  stored-none e = rw e
+
+-- ---- a pass
+
+-- what a pass writes that writes f i w for word w at place i
+unfoldable pub passWrites : (ℕ → ℕ → List Write) → ℕ → List ℕ → List Write
+passWrites f i [] = []
+passWrites f i (w ∷ ws) = f i w ++ passWrites f (suc i) ws
+
+module _ (f : ℕ → ℕ → List Write) (ws target st : List ℕ) (i : ℕ) (inv : applyAll st (passWrites f i (drop i ws)) ≡ target) where
+  -- one word on
+  pub pass-on : i < length ws → {after : List ℕ} → after ≡ applyAll st (f i (getD ws i 0)) → applyAll after (passWrites f (i + 1) (drop (i + 1) ws)) ≡ target
+  unfolding passWrites
+  pass-on h e =
+      let here : applyAll st (f i (getD ws i 0) ++ passWrites f (suc i) (drop (i + 1) ws)) ≡ target = sym (ap (λ (l : List ℕ). applyAll st (passWrites f i l)) (rest ws i h)) ∙ inv in
+      let next : i + 1 ≡ suc i = omega arith in
+      rw (ap (λ (n : ℕ). passWrites f n (drop (i + 1) ws)) next, e) (sym (applied-append st (f i (getD ws i 0)) (passWrites f (suc i) (drop (i + 1) ws))) ∙ here)
+
+  -- and at the end
+  pub pass-done : length ws ≤ i → st ≡ target
+  unfolding passWrites applyAll
+  pass-done h = sym (ap (λ (l : List ℕ). applyAll st (passWrites f i l)) (drop-of-length-le ws h)) ∙ inv
+
+-- ---- the two kinds of body
+
+abbrev pub parameterWrites : ℕ → ℕ → ℕ → List Write
+parameterWrites s i w = writeTo (named s w) (data24 w)
+
+pub parameters-pass : (s i : ℕ) (ws : List ℕ) → writes3D s ws ≡ passWrites (parameterWrites s) i ws
+unfolding writes3D passWrites
+parameters-pass s i [] = refl
+parameters-pass s i (w ∷ ws) = ap (λ (x : List Write). writeTo (named s w) (data24 w) ++ x) (parameters-pass s (suc i) ws)
+
+-- what a word writes, from what is read of it and of its setting
+pub parameter-written : (st : List ℕ) (s w t u : ℕ) (a : SubAddress) (f : Found) (d : ℕ) {left : List ℕ} → left ≡ applyAll st (writeTo f d)
+    → f ≡ find3D t u a → t ≡ paraType s → u ≡ paraSubType s → a ≡ subAddress w → d ≡ data24 w → left ≡ applyAll st (writeTo (named s w) (data24 w))
+parameter-written st s w t u a f d e ef et eu ea ed = cc
+
+abbrev pub runWrites : VideoOffset → ℕ → ℕ → List Write
+runWrites o i w = writeTo (findVideo (record { 0 = o .0 + 4 * i })) w
+
+run-from : (o : VideoOffset) (i : ℕ) (ws : List ℕ) → writesRun (record { 0 = o .0 + 4 * i }) ws ≡ passWrites (runWrites o) i ws
+unfolding writesRun passWrites
+run-from o i [] = refl
+run-from o i (w ∷ ws) =
+    let e : o .0 + 4 * i + 4 ≡ o .0 + 4 * suc i = omega arith in
+    ap (λ (x : List Write). runWrites o i w ++ x) (ap (λ (x : ℕ). writesRun (record { 0 = x }) ws) e ∙ run-from o (suc i) ws)
+
+pub run-pass : (o : VideoOffset) (ws : List ℕ) → writesRun o ws ≡ passWrites (runWrites o) 0 ws
+run-pass o ws = ap (λ (x : ℕ). writesRun (record { 0 = x }) ws) (omega arith) ∙ run-from o 0 ws
+
+pub word-written : (st : List ℕ) (o : VideoOffset) (w : ℕ) (f : Found) {left : List ℕ} → left ≡ applyAll st (writeTo f w) → f ≡ findVideo o → left ≡ applyAll st (writeTo (findVideo o) w)
+word-written st o w f e ef = cc
+
+-- ---- the body of a packet, by the kind of its first word
+
+module _ (st ws : List ℕ) {kind : Kind} {left : List ℕ} where
+  pub body-parameter : (s : ℕ) → kind ≡ Parameter s → left ≡ applyAll st (writes3D s ws) → left ≡ applyAll st (writesIn kind ws)
+  body-parameter s e h = rw e (h ∙ ap (applyAll st) (sym (in-parameters s ws)))
+
+  pub body-video : (o : VideoOffset) → kind ≡ Video o → left ≡ applyAll st (writesRun o ws) → left ≡ applyAll st (writesIn kind ws)
+  body-video o e h = rw e (h ∙ ap (applyAll st) (sym (in-run o ws)))
+
+  pub body-setting : kind ≡ Setting → 0 < length ws → left ≡ applyAll st (writes3D (getD ws 0 0) (take (length ws - 1) (drop 1 ws))) → left ≡ applyAll st (writesIn kind ws)
+  unfolding writesIn goes carries after
+  body-setting e l h = rw e (h ∙ ap (applyAll st) (first ws l))
+    where
+      first : (ws : List ℕ) → 0 < length ws → writes3D (getD ws 0 0) (take (length ws - 1) (drop 1 ws)) ≡ writesIn Setting ws
+      first [] l = absurd (omega arith)
+      first (w ∷ ws) l = rw (take-all (suc (length ws) - 1) ws (omega arith)) (sym (in-parameters w ws))
+
+pub body-none : (st ws : List ℕ) {kind : Kind} → kind ≡ Setting → length ws ≤ 0 → st ≡ applyAll st (writesIn kind ws)
+unfolding writesIn applyAll
+body-none st ws e l = rw e (none ws l)
+  where
+    none : (ws : List ℕ) → length ws ≤ 0 → st ≡ applyAll st (writesIn Setting ws)
+    none [] l = refl
+    none (w ∷ ws) l = absurd (omega arith)
+
+-- the writes of a stretch, then of what follows it
+pub stretch-writes : (kind : Kind) (k : ℕ) (xs ys : List ℕ) → length xs ≤ k
+    → writesFrom kind k (xs ++ ys) ≡ writesIn kind xs ++ writesFrom (afterAll kind xs) (k - length xs) ys
+unfolding writesFrom writesIn writeAt nextKind nextLeft afterAll
+stretch-writes kind k [] ys l = ap (λ (n : ℕ). writesFrom kind n ys) (omega arith)
+stretch-writes kind zero (x ∷ xs) ys l = absurd (omega arith)
+stretch-writes kind (suc k) (x ∷ xs) ys l =
+    ap (λ (m : List Write). writeTo (goes kind x) (carries kind x) ++ m)
+    (stretch-writes (after kind x) k xs ys (omega arith)
+    ∙ ap (λ (n : ℕ). writesIn (after kind x) xs ++ writesFrom (afterAll (after kind x) xs) n ys) (omega arith))
+    ∙ sym (append-assoc (writeTo (goes kind x) (carries kind x)) _ _)
+
+-- ---- one step of the loop over packets
+
+module _ (ws target st : List ℕ) (i : ℕ) (kind : Kind) (k : ℕ) (inv : applyAll st (writesFrom kind k (drop i ws)) ≡ target) where
+  -- a header writes nothing
+  pub header-writes : i < length ws → k ≡ 0 → (next : Kind) (n : ℕ) → next ≡ kindOf (getD ws i 0) → n ≡ count (getD ws i 0)
+      → applyAll st (writesFrom next n (drop (i + 1) ws)) ≡ target
+  unfolding writesFrom writeAt nextKind nextLeft
+  header-writes h z next n e f = let here = rw (z, rest ws i h) at inv in rw (e, f) here
+
+  -- the words of a body that are at hand
+  pub body-writes : (n : ℕ) → i + n ≤ length ws → n ≤ k → (next : Kind) → next ≡ afterAll kind (take (i + n - i) (drop i ws))
+      → (left : List ℕ) → left ≡ applyAll st (writesIn kind (take (i + n - i) (drop i ws))) → applyAll left (writesFrom next (k - n) (drop (i + n) ws)) ≡ target
+  body-writes n h l next f left e =
+      let xs = take (i + n - i) (drop i ws) in
+      let m = part-length ws i n h in
+      rw (f, e) (
+        sym (applied-append st (writesIn kind xs) (writesFrom (afterAll kind xs) (k - n) (drop (i + n) ws)))
+        ∙ ap (λ (x : ℕ). applyAll st (writesIn kind xs ++ writesFrom (afterAll kind xs) (k - x) (drop (i + n) ws))) (sym m)
+        ∙ ap (applyAll st) (sym (stretch-writes kind k xs (drop (i + n) ws) (omega (arith, m))))
+        ∙ ap (λ (l : List ℕ). applyAll st (writesFrom kind k l)) (sym (part ws i n)) ∙ inv)
+
+  pub end-writes : length ws ≤ i → st ≡ target
+  unfolding writesFrom applyAll
+  end-writes h = rw (drop-of-length-le ws h) at inv

@@ -1,0 +1,102 @@
+-- The names of the cells are the table's, and so are the runs of video registers: computed tests over the cells and over the rows.
+-- Assumes nothing.
+use mathlib.Core.Path.{_≡_, refl, sym, ap, subst, _∙_}
+use mathlib.Core.Bool.{Bool, true, false, _&&_, not, cond}
+use mathlib.Core.List.{List, [], _∷_}
+use Prim.Native.Nat.{ℕ, zero, suc, _+_, _*_, _≤_, _<_}
+use native.Mathlib.Omega.{arith}
+use borrow.Author.Tests.{eqb-true}
+use lib.Dec.{T, leb, eqb, leb·zero, leb·suc-zero, leb·suc-suc}
+use mir.Facts.{and-yes}
+use Rattle.laws.specs.Lists.{All, every, from}
+use Rattle.laws.proofs.Lists.{every-from, every-all}
+use Rattle.laws.proofs.Tests.{true-of}
+use Rattle.meaning.specs.declared.Cell.{Cell}
+use Rattle.meaning.specs.declared.VideoOffset.{VideoOffset}
+use Rattle.meaning.specs.declared.Found.{Found}
+use Rattle.meaning.specs.declared.Found.the-variants.{At, Missing}
+use Rattle.meaning.specs.Words.{following}
+use Rattle.meaning.specs.Registers.{cell, Row, targetGroup, stage, sample, groups, scaler, videoRows, find, findAmong, find3D, findVideo, isFound}
+use Rattle.meaning.specs.Reader.{runIn}
+use Rattle.meaning.proofs.Table.{isAt, is-at}
+use Rattle.registers.specs.Names.{typeOf, subTypeOf, addressOf, offsetOf, rowFrom}
+
+-- ---- names
+
+abbrev is-3D : ℕ → Bool
+is-3D c = isAt c (find3D (typeOf (cell c)) (subTypeOf (cell c)) (addressOf (cell c)))
+
+abbrev is-video : ℕ → Bool
+is-video c = isAt c (findVideo (offsetOf (cell c)))
+
+tested-3D : T (every is-3D (from 0 84))
+unfolding every from isAt typeOf subTypeOf addressOf find3D findAmong find groups targetGroup stage sample
+tested-3D = tt
+
+tested-video : T (every is-video (from 84 17))
+unfolding every from isAt offsetOf findVideo find videoRows scaler
+tested-video = tt
+
+-- the name of a 3D cell names it
+pub named-3D : (c : ℕ) → c < 84 → find3D (typeOf (cell c)) (subTypeOf (cell c)) (addressOf (cell c)) ≡ At (cell c)
+named-3D c h = is-at c _ (every-from is-3D 0 84 tested-3D c (omega arith) (omega arith))
+
+-- and the offset of a video cell
+pub named-video : (c : ℕ) → 84 ≤ c → c < 101 → findVideo (offsetOf (cell c)) ≡ At (cell c)
+named-video c l h = is-at c _ (every-from is-video 84 17 tested-video c l (omega arith))
+
+-- ---- runs
+
+-- where k registers stand in a row from an offset on and no more, a run of n stays among them exactly if n ≤ k
+runs : (k : ℕ) (o : VideoOffset) → T (runIn o k) → findVideo (record { 0 = o .0 + 4 * k }) ≡ Missing → (n : ℕ) → runIn o n ≡ leb n k
+unfolding runIn
+runs k o t e zero = sym (leb·zero k)
+runs zero o t e (suc n) =
+    let none : findVideo o ≡ Missing = sym (ap (λ (x : ℕ). findVideo (record { 0 = x })) (omega arith)) ∙ e in
+    rw (none, leb·suc-zero n)
+runs (suc k) o t e (suc n) =
+    let both = and-yes (isFound (findVideo o)) _ t in
+    let end : findVideo (record { 0 = following o .0 + 4 * k }) ≡ Missing = sym (ap (λ (x : ℕ). findVideo (record { 0 = x })) (omega arith)) ∙ e in
+    rw (true-of (isFound (findVideo o)) (both .0), leb·suc-suc n k) (runs k (following o) (both .1) end n)
+
+-- the row that a lookup found
+found-row : (Q : Row VideoOffset → Type 0) (o : VideoOffset) (c : Cell) (rs : List (Row VideoOffset)) → All Q rs → find (λ n. eqb (o .0) (n .0)) rs ≡ At c
+    → (r : Row VideoOffset) × (o .0 ≡ r .name .0) × (r .cell ≡ c) × Q r
+unfolding find
+found-row Q o c [] a e = absurd (missing e)
+  where
+    missing : {c : Cell} → Missing ≡ At c → ⊥
+    missing x = subst (λ (f : Found). T (not (isFound f))) x tt
+found-row Q o c (r ∷ rs) a e = at (eqb (o .0) (r .name .0)) refl e (found-row Q o c rs (a .1))
+  where
+    cell-of : Found → Cell
+    cell-of (At x) = x
+    cell-of Missing = r .cell
+
+    at : (b : Bool) → eqb (o .0) (r .name .0) ≡ b → cond b (At (r .cell)) (find (λ n. eqb (o .0) (n .0)) rs) ≡ At c
+        → (find (λ n. eqb (o .0) (n .0)) rs ≡ At c → (q : Row VideoOffset) × (o .0 ≡ q .name .0) × (q .cell ≡ c) × Q q)
+        → (q : Row VideoOffset) × (o .0 ≡ q .name .0) × (q .cell ≡ c) × Q q
+    at true t x more = (r, eqb-true (o .0) (r .name .0) t, ap cell-of x, a .0)
+    at false t x more = more x
+
+-- from the row's offset on, so many registers stand in a row
+abbrev ends : Row VideoOffset → Bool
+ends r = runIn (r .name) (rowFrom (r .cell)) && not (isFound (findVideo (record { 0 = r .name .0 + 4 * rowFrom (r .cell) })))
+
+tested-rows : T (every ends videoRows)
+unfolding every runIn rowFrom findVideo find videoRows scaler
+tested-rows = tt
+
+missing-of : (f : Found) → T (not (isFound f)) → f ≡ Missing
+missing-of (At c) t = absurd t
+missing-of Missing t = refl
+
+-- a run from a video register on stays among the registers exactly if it is no longer than they stand in a row
+pub row-run : (o : VideoOffset) (c : Cell) → findVideo o ≡ At c → (n : ℕ) → runIn o n ≡ leb n (rowFrom c)
+unfolding findVideo
+row-run o c e n =
+    let f = found-row (λ r. T (ends r)) o c videoRows (every-all ends videoRows tested-rows) e in
+    let both = and-yes (runIn (f .0 .name) _) _ (f .3) in
+    let same : f .0 .name ≡ o = ap (λ (x : ℕ). record { 0 = x }) (sym (f .1)) in
+    let exact : runIn (f .0 .name) n ≡ leb n (rowFrom (f .0 .cell)) = runs (rowFrom (f .0 .cell)) (f .0 .name) (both .0) (missing-of _ (both .1)) n in
+    rw (same, f .2) at exact

@@ -1,0 +1,32 @@
+-- The tests of the value rules, from the arms of a `match` and from early returns.
+-- Assumes nothing.
+use mathlib.Core.Path.{_≡_, refl}
+use mathlib.Core.Bool.{Bool, true, false, not, _&&_}
+use Prim.Native.Nat.{ℕ, suc, _<_}
+use native.Mathlib.Nat.{le-of-suc-le-suc}
+use lib.Dec.{leb}
+use borrow.Author.Tests.{le-leb, lt-leb}
+use Rattle.laws.specs.Tests.{implies}
+use Rattle.laws.proofs.Arms.{told-true, told-false}
+
+-- the range `0..=b` tells x < b + 1, and the definition asks x ≤ b
+pub at-most : (x b : ℕ) → x < suc b → leb x b ≡ true
+at-most x b h = le-leb x b (le-of-suc-le-suc h)
+
+-- to imply what is false is to be false
+pub implies-false : (b : Bool) → implies b false ≡ not b
+implies-false true = refl
+implies-false false = refl
+
+-- ---- a row of tests, `a && (b && ..)`, as early returns
+
+-- past a test that holds, the rest decides
+pub onward : {a s rest : Bool} → s ≡ true → a ≡ rest → a ≡ (s && rest)
+onward h e = rw h e
+
+-- a test that fails decides
+pub ended : {s : Bool} (rest : Bool) → s ≡ false → false ≡ (s && rest)
+ended rest h = rw h
+
+-- for `search`: each return of such a function
+pub ruleset row = (onward, ended, told-true, told-false, le-leb, lt-leb)
