@@ -156,10 +156,10 @@ module _ (ws target st : List ℕ) (i : ℕ) (kind : Kind) (k : ℕ) (inv : appl
       let xs = take (i + n - i) (drop i ws) in
       let m = part-length ws i n h in
       rw (f, e) (
-        sym (applied-append st (writesIn kind xs) (writesFrom (afterAll kind xs) (k - n) (drop (i + n) ws)))
-        ∙ ap (λ (x : ℕ). applyAll st (writesIn kind xs ++ writesFrom (afterAll kind xs) (k - x) (drop (i + n) ws))) (sym m)
-        ∙ ap (applyAll st) (sym (stretch-writes kind k xs (drop (i + n) ws) (omega (arith, m))))
-        ∙ ap (λ (l : List ℕ). applyAll st (writesFrom kind k l)) (sym (part ws i n)) ∙ inv)
+      sym (applied-append st (writesIn kind xs) (writesFrom (afterAll kind xs) (k - n) (drop (i + n) ws)))
+      ∙ ap (λ (x : ℕ). applyAll st (writesIn kind xs ++ writesFrom (afterAll kind xs) (k - x) (drop (i + n) ws))) (sym m)
+      ∙ ap (applyAll st) (sym (stretch-writes kind k xs (drop (i + n) ws) (omega (arith, m))))
+      ∙ ap (λ (l : List ℕ). applyAll st (writesFrom kind k l)) (sym (part ws i n)) ∙ inv)
 
   pub end-writes : length ws ≤ i → st ≡ target
   unfolding writesFrom applyAll

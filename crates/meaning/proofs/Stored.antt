@@ -51,7 +51,7 @@ found-video o = found-of (Wide 32) _ videoRows (rows-all RowVideo (Wide 32) (λ 
 
 -- ---- the law
 
-data-small : (p : ℕ) → data24 p < 2 ^ 24
+pub data-small : (p : ℕ) → data24 p < 2 ^ 24
 unfolding data24
 data-small p = omega arith
 

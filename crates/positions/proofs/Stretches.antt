@@ -147,15 +147,23 @@ pub end-position : (ws : List ℕ) (i : ℕ) (p : Position) → length ws ≤ i 
 unfolding positionAfter
 end-position ws i p h = rw (drop-of-length-le ws h)
 
--- the same from what the code reads: the position after the step, and that its offsets are bounded
+-- the same from what the code reads: the offsets after the step are bounded,
+pub header-bounded : (h : ℕ) (next : Kind) (n : ℕ) → next ≡ kindOf h → n ≡ count h → Bounded next n
+header-bounded h next n e f = rw (e, f) (bounded-header h)
+
+pub words-bounded : (ws : List ℕ) (i : ℕ) (kind : Kind) (k n : ℕ) → i + n ≤ length ws → n ≤ k → Bounded kind k
+    → (next : Kind) → next ≡ afterAll kind (take (i + n - i) (drop i ws)) → Bounded next (k - n)
+words-bounded ws i kind k n h l b next e = rw e (body-bounded ws i kind k n h l b)
+
+-- and the position after it
 module _ (ws : List ℕ) (i : ℕ) (kind : Kind) (k : ℕ) (p : Position) (inv : positionAfter (record { kind = kind; left = k }) (drop i ws) ≡ p) where
   pub past-header : i < length ws → k ≡ 0 → (next : Kind) (n : ℕ) → next ≡ kindOf (getD ws i 0) → n ≡ count (getD ws i 0)
-      → Bounded next n × (positionAfter (record { kind = next; left = n }) (drop (i + 1) ws) ≡ p)
-  past-header h z next n e f = rw (e, f) (bounded-header (getD ws i 0), sym (header-position ws i kind k h z) ∙ inv)
+      → positionAfter (record { kind = next; left = n }) (drop (i + 1) ws) ≡ p
+  past-header h z next n e f = rw (e, f) (sym (header-position ws i kind k h z) ∙ inv)
 
-  pub past-body : (n : ℕ) → i + n ≤ length ws → n ≤ k → Bounded kind k → (next : Kind) → next ≡ afterAll kind (take (i + n - i) (drop i ws))
-      → Bounded next (k - n) × (positionAfter (record { kind = next; left = k - n }) (drop (i + n) ws) ≡ p)
-  past-body n h l b next e = rw e (body-bounded ws i kind k n h l b, sym (body-position ws i kind k n h l) ∙ inv)
+  pub past-body : (n : ℕ) → i + n ≤ length ws → n ≤ k → (next : Kind) → next ≡ afterAll kind (take (i + n - i) (drop i ws))
+      → positionAfter (record { kind = next; left = k - n }) (drop (i + n) ws) ≡ p
+  past-body n h l next e = rw e (sym (body-position ws i kind k n h l) ∙ inv)
 
   pub past-all : length ws ≤ i → record { kind = kind; left = k } ≡ p
   past-all h = sym (end-position ws i (record { kind = kind; left = k }) h) ∙ inv

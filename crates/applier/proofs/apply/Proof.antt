@@ -8,7 +8,7 @@ use borrow.Author.Needs.{needs}
 use Rattle.meaning.specs.State.{stateWords, applyAll}
 use Rattle.meaning.specs.Positions.{writesFrom}
 use Rattle.positions.specs.Stretches.{positionAfter, Bounded}
-use Rattle.positions.proofs.Stretches.{past-header, past-body, past-all, bounded-less, part-length}
+use Rattle.positions.proofs.Stretches.{past-header, past-body, past-all, header-bounded, words-bounded, bounded-less, part-length}
 use Rattle.applier.proofs.Passes.{header-writes, body-writes, end-writes}
 use Rattle.applier.proofs.apply.Statement.{statement}
 use Rattle.applier.proofs.apply.Tie as tie
@@ -66,14 +66,14 @@ loop-again : tie.Need-loop-again Inv-loop μ-loop
 loop-again c =
     let k = c .before in
     let l = k .before .before .before .before in
-    let past = past-header (l .before .before .before .args .words .now) (l .loop .i) (l .loop .kind) (l .loop .left) _ (l .loop .inv .3) (omega arith)
-        (k .before .before .if1 .taken) (k .kind-of .result) (c .count .result) (k .kind-of .ensures) (c .count .ensures) in (
+    let ws = l .before .before .before .args .words .now in (
       omega arith,
       l .loop .inv .1,
-      past .0,
-      past .1,
-      header-writes (l .before .before .before .args .words .now) _ (l .loop .state) (l .loop .i) (l .loop .kind) (l .loop .left) (l .loop .inv .4) (omega arith)
-          (k .before .before .if1 .taken) (k .kind-of .result) (c .count .result) (k .kind-of .ensures) (c .count .ensures),
+      header-bounded _ (k .kind-of .result) (c .count .result) (k .kind-of .ensures) (c .count .ensures),
+      past-header ws (l .loop .i) (l .loop .kind) (l .loop .left) _ (l .loop .inv .3) (omega arith) (k .before .before .if1 .taken)
+          (k .kind-of .result) (c .count .result) (k .kind-of .ensures) (c .count .ensures),
+      header-writes ws _ (l .loop .state) (l .loop .i) (l .loop .kind) (l .loop .left) (l .loop .inv .4) (omega arith) (k .before .before .if1 .taken)
+          (k .kind-of .result) (c .count .result) (k .kind-of .ensures) (c .count .ensures),
     )
 
 -- src/lib.rt:106:45
@@ -130,13 +130,11 @@ loop-again-2 c =
     let b = c .before .before .before in
     let n = b .before .before .before .lesser .result in
     let l = b .before .before .before .before .before .before in
-    let ws = l .before .before .before .args .words .now in
-    let past = past-body ws (l .loop .i) (l .loop .kind) (l .loop .left) _ (l .loop .inv .3) n (omega arith) (omega arith) (l .loop .inv .2)
-        (c .after-words .result) (c .after-words .ensures) in (
+    let ws = l .before .before .before .args .words .now in (
       omega arith,
       b .apply-body .kept .1 .1 .0 ∙ l .loop .inv .1,
-      past .0,
-      past .1,
+      words-bounded ws (l .loop .i) (l .loop .kind) (l .loop .left) n (omega arith) (omega arith) (l .loop .inv .2) (c .after-words .result) (c .after-words .ensures),
+      past-body ws (l .loop .i) (l .loop .kind) (l .loop .left) _ (l .loop .inv .3) n (omega arith) (omega arith) (c .after-words .result) (c .after-words .ensures),
       body-writes ws _ (l .loop .state) (l .loop .i) (l .loop .kind) (l .loop .left) (l .loop .inv .4) n (omega arith) (omega arith)
           (c .after-words .result) (c .after-words .ensures) _ (b .apply-body .ensures),
     )

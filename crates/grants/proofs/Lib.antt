@@ -1,0 +1,4 @@
+pub mod Grants
+pub mod Lent
+pub mod Spans
+pub mod Stores

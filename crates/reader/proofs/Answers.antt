@@ -1,0 +1,43 @@
+-- The reader's answer and the state after it, by what its tests came to.
+-- Assumes nothing.
+use mathlib.Core.Path.{_≡_, refl, sym}
+use mathlib.Core.Bool.{true, false}
+use mathlib.Core.List.{List}
+use Prim.Native.Nat.{ℕ}
+use borrow.Author.Tests.{ne-eqb}
+use lib.Dec.{eqb}
+use lib.ListN.{length}
+use mir.Facts.{and-yes, eqb-yes}
+use Rattle.laws.proofs.Tests.{holds-of}
+use Rattle.meaning.specs.declared.Kind.the-variants.{Setting}
+use Rattle.meaning.specs.declared.Position.{Position}
+use Rattle.meaning.specs.declared.Answer.{Answer}
+use Rattle.meaning.specs.Grants.{grantsFine, termsOf}
+use Rattle.meaning.specs.State.{stateWords, wellFormed, applyAll}
+use Rattle.meaning.specs.Positions.{writesFrom, writesOf}
+use Rattle.meaning.specs.Answers.{badState, badGrants, answer}
+use Rattle.meaning.specs.Reader.{batchAnswer, readAnswer, readLeaves}
+
+-- a well-formed state is whole
+pub whole : (st : List ℕ) → wellFormed st ≡ true → length st ≡ stateWords
+unfolding wellFormed
+whole st e = eqb-yes (and-yes (eqb (length st) stateWords) _ (holds-of e) .0)
+
+module _ (batch grants st : List ℕ) where
+  pub state-refused : wellFormed st ≡ false → (answer badState 0 ≡ readAnswer batch grants st) × (st ≡ readLeaves batch grants st)
+  unfolding readAnswer readLeaves
+  state-refused e = rw e (refl, refl)
+
+  pub grants-refused : wellFormed st ≡ true → grantsFine grants ≡ false → (answer badGrants 0 ≡ readAnswer batch grants st) × (st ≡ readLeaves batch grants st)
+  unfolding readAnswer readLeaves
+  grants-refused e f = rw (e, f) (refl, refl)
+
+  module _ (e : wellFormed st ≡ true) (f : grantsFine grants ≡ true) {a : Answer} (h : a ≡ batchAnswer (termsOf grants) batch) where
+    pub batch-refused : (a .reason ≡ 0 → ⊥) → (a ≡ readAnswer batch grants st) × (st ≡ readLeaves batch grants st)
+    unfolding readAnswer readLeaves
+    batch-refused n = rw (e, f, sym h, ne-eqb (a .reason) 0 n) (refl, refl)
+
+    pub batch-accepted : a .reason ≡ 0 → {p : Position} → p ≡ record { kind = Setting; left = 0 } → {left : List ℕ}
+        → left ≡ applyAll st (writesFrom (p .kind) (p .left) batch) → (a ≡ readAnswer batch grants st) × (left ≡ readLeaves batch grants st)
+    unfolding readAnswer readLeaves writesOf
+    batch-accepted z q l = let applied = rw q at l in rw (e, f, sym h, z) (refl, applied)

@@ -1,0 +1,4 @@
+pub mod Headers
+pub mod Judging
+pub mod Rows
+pub mod Registers
