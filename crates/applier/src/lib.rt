@@ -103,7 +103,7 @@ pub fn apply(words: &[u32], from: Position, state: &mut [u32]) -> Position
             left = fields::count(header) as usize;
             i += 1;
         } else {
-            let n = positions::lesser(left, words.len() - i);
+            let n = numbers::lesser(left, words.len() - i);
             let end = i + n;
             let body = &words[i..end];
             apply_body(body, kind, state);

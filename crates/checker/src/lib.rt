@@ -175,7 +175,7 @@ pub fn check(
             left = fields::count(header) as usize;
             i += 1;
         } else {
-            let n = positions::lesser(left, words.len() - i);
+            let n = numbers::lesser(left, words.len() - i);
             let end = i + n;
             let body = &words[i..end];
             let a = check_body(body, i, kind, targets, firsts, seconds);

@@ -1,6 +1,6 @@
 // Where the words of a batch stand.
 ghost use mathlib.Core.Path.{_≡_};
-ghost use Prim.Native.Nat.{_+_, _*_, _<_, _^_, min};
+ghost use Prim.Native.Nat.{_+_, _*_, _<_, _^_};
 ghost use lib.ListN.{length};
 ghost use Rattle.meaning.specs.Positions.{kindOf};
 ghost use Rattle.positions.specs.Stretches.{afterAll, Bounded};
@@ -41,14 +41,4 @@ pub fn after_words(kind: Kind, words: &[u32]) -> Kind
         Kind::Parameter(setting) => Kind::Parameter(setting),
         Kind::Video(offset) => Kind::Video(offset_on(offset, words.len())),
     }
-}
-
-// So many of the words at hand as the open packet still wants.
-pub fn lesser(a: usize, b: usize) -> usize
-    ensures lesser { λ r. ⌜ r ≡ min a b ⌝ }
-{
-    if a <= b {
-        return a;
-    }
-    b
 }

@@ -64,18 +64,11 @@ const BYTES_PER_PIXEL: [u8; 256] = *b"\
     \x00\x00\x00\x00\x00\x00\x00\x00\
     ";
 
-// Apart from the lookup, since a parameter is known to be a byte.
-fn wide(entry: u8) -> u32
-    ensures same { λ r. ⌜ r ≡ entry ⌝ }
-{
-    entry as u32
-}
-
 // Only the low eight bits count: so every number has an answer, and no index needs a test.
 pub fn bytes_per_pixel(byte: u32) -> u32
     ensures found { λ r. ⌜ r ≡ rules.bytesPerPixel byte ⌝ }
 {
-    wide(BYTES_PER_PIXEL[(byte % 256) as usize])
+    numbers::wide(BYTES_PER_PIXEL[(byte % 256) as usize])
 }
 
 // A format byte is permitted exactly if its pixels have bytes.

@@ -172,7 +172,7 @@ fn run_reason(offset: VideoOffset, count: u32) -> u32
     }
 }
 
-// 3 and 4 of a header.
+// 3 and 4 of a header. A 3D packet is a setting and 1 to 112 parameters.
 pub fn header_reason(header: u32) -> u32
     ensures reason { λ r. ⌜ r ≡ headerReason header ⌝ }
 {

@@ -7,15 +7,6 @@ ghost use lib.Seq.{sets};
 ghost use Rattle.meaning.specs.Words.{wordsOf, bytesOf};
 ghost use Rattle.words.specs.Copies.{wordsThatFit, wordsLeft, bytesThatFit, bytesLeft};
 
-fn smaller(a: usize, b: usize) -> usize
-    ensures { λ r. ⌜ r ≡ min a b ⌝ }
-{
-    if a < b {
-        return a;
-    }
-    b
-}
-
 // How many of `all` are left after `passed`, which may be more than there are.
 fn left_after(all: usize, passed: usize) -> usize
     ensures { λ r. ⌜ r ≡ all - passed ⌝ }
@@ -26,22 +17,16 @@ fn left_after(all: usize, passed: usize) -> usize
     all - passed
 }
 
-fn wide(x: u8) -> u32
-    ensures { λ r. ⌜ (r ≡ x) × (r < 256) ⌝ }
-{
-    x as u32
-}
-
 // The sum of four bytes in this order compiles to one load of 32 bits.
 fn word(bytes: &[u8], i: usize) -> u32
     requires { ⌜ i * 4 + 4 ≤ length (now bytes) ⌝ }
     ensures { λ r. ⌜ r ≡ getD (wordsOf (now (bytes .entry))) i 0 ⌝ }
 {
     let at = i * 4;
-    wide(bytes[at])
-        + wide(bytes[at + 1]) * 256
-        + wide(bytes[at + 2]) * 65536
-        + wide(bytes[at + 3]) * 16777216
+    numbers::wide(bytes[at])
+        + numbers::wide(bytes[at + 1]) * 256
+        + numbers::wide(bytes[at + 2]) * 65536
+        + numbers::wide(bytes[at + 3]) * 16777216
 }
 
 // The four stores in this order compile to one of 32 bits.
@@ -61,7 +46,7 @@ pub fn words_from(bytes: &[u8], at: usize, words: &mut [u32]) -> usize
     ensures count { λ r. ⌜ r ≡ length (wordsThatFit (now (bytes .entry)) at (now (words .entry))) ⌝ }
     ensures words { λ _. ⌜ now (words .exit) ≡ wordsLeft (now (bytes .entry)) at (now (words .entry)) ⌝ }
 {
-    let n = smaller(words.len(), left_after(bytes.len() / 4, at));
+    let n = numbers::lesser(words.len(), left_after(bytes.len() / 4, at));
     let mut i = 0;
     while i < n {
         words[i] = word(bytes, at + i);
@@ -75,7 +60,7 @@ pub fn bytes_from(words: &[u32], bytes: &mut [u8]) -> usize
     ensures count { λ r. ⌜ r ≡ length (bytesThatFit (now (words .entry)) (now (bytes .entry))) ⌝ }
     ensures bytes { λ _. ⌜ now (bytes .exit) ≡ bytesLeft (now (words .entry)) (now (bytes .entry)) ⌝ }
 {
-    let n = smaller(bytes.len() / 4, words.len());
+    let n = numbers::lesser(bytes.len() / 4, words.len());
     let mut i = 0;
     while i < n {
         put_word(bytes, i, words[i]);

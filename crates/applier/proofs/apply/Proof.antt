@@ -18,7 +18,7 @@ use Rattle.applier.proofs.apply_body.Reads as apply-body-reads
 use Rattle.fields.proofs.count.Reads as count-reads
 use Rattle.positions.proofs.after_words.Reads as after-words-reads
 use Rattle.positions.proofs.kind_of.Reads as kind-of-reads
-use Rattle.positions.proofs.lesser.Reads as lesser-reads
+use Rattle.numbers.proofs.lesser.Reads as lesser-reads
 
 abbrev Inv-loop : tie.InvT-loop
 Inv-loop words state₀ kind₀ left₀ i₀ state kind left i =

@@ -18,7 +18,7 @@ use Rattle.checker.proofs.refuse.Reads as refuse-reads
 use Rattle.fields.proofs.count.Reads as count-reads
 use Rattle.positions.proofs.after_words.Reads as after-words-reads
 use Rattle.positions.proofs.kind_of.Reads as kind-of-reads
-use Rattle.positions.proofs.lesser.Reads as lesser-reads
+use Rattle.numbers.proofs.lesser.Reads as lesser-reads
 use Rattle.verdicts.proofs.header_reason.Reads as header-reason-reads
 
 abbrev Inv-loop : tie.InvT-loop

@@ -18,7 +18,7 @@ wide-requires c κs = search needs
 
 returns : tie.Need-returns
 unfolding formatTable
-returns c = c .wide .ensures ∙ entry (c .before .args .byte)
+returns c = c .wide .ensures .0 ∙ entry (c .before .args .byte)
 
 pub bytes-per-pixel-spec : {M : Type 1} → statement M
 bytes-per-pixel-spec = tie.close (tie.spec cast-wide array-read-wide wide-requires returns)

@@ -20,8 +20,8 @@ Inv-loop words bytes₀ n i₀ bytes i =
 abbrev μ-loop : tie.MeasureT-loop
 μ-loop words bytes₀ n i₀ bytes i = n - i
 
-smaller-requires : tie.Need-smaller-requires Inv-loop μ-loop
-smaller-requires c κs = search needs
+lesser-requires : tie.Need-lesser-requires Inv-loop μ-loop
+lesser-requires c κs = search needs
 
 loop-holds : tie.Need-loop-holds Inv-loop μ-loop
 loop-holds c = (omega arith, refl, refl)
@@ -45,7 +45,7 @@ loop-again : tie.Need-loop-again Inv-loop μ-loop
 loop-again c =
     let p = c .before .before in
     let l = p .before .before .before .before in
-    let n = l .before .smaller .result in
+    let n = l .before .lesser .result in
     let a = l .before .before .before .before .args in (
       omega arith,
       omega (arith, p .put-word .kept .0),
@@ -62,7 +62,7 @@ returns : tie.Need-returns Inv-loop μ-loop
 unfolding bytesThatFit bytesLeft
 returns c =
     let l = c .before in
-    let n = l .before .smaller .result in
+    let n = l .before .lesser .result in
     let a = l .before .before .before .before .args in
     let s = a .words .now in
     let room = length (a .bytes .now) / 4 in
@@ -78,7 +78,7 @@ bytes-from-spec =
     (tie.spec
     Inv-loop
     μ-loop
-    smaller-requires
+    lesser-requires
     loop-holds
     mul-put-word
     shared-slice-read-put-word

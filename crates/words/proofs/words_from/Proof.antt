@@ -24,8 +24,8 @@ abbrev μ-loop : tie.MeasureT-loop
 left-after-requires : tie.Need-left-after-requires Inv-loop μ-loop
 left-after-requires c κs = search needs
 
-smaller-requires : tie.Need-smaller-requires Inv-loop μ-loop
-smaller-requires c κs = search needs
+lesser-requires : tie.Need-lesser-requires Inv-loop μ-loop
+lesser-requires c κs = search needs
 
 loop-holds : tie.Need-loop-holds Inv-loop μ-loop
 loop-holds c = (omega arith, refl, refl)
@@ -51,7 +51,7 @@ loop-less c = omega arith
 loop-again : tie.Need-loop-again Inv-loop μ-loop
 loop-again c =
     let l = c .before .before in
-    let n = l .before .smaller .result in
+    let n = l .before .lesser .result in
     let a = l .before .before .before .before .before .args in
     let ws = wordsOf (a .bytes .now) in
     let s = drop (a .at) ws in
@@ -69,7 +69,7 @@ returns : tie.Need-returns Inv-loop μ-loop
 unfolding wordsThatFit wordsLeft
 returns c =
     let l = c .before in
-    let n = l .before .smaller .result in
+    let n = l .before .lesser .result in
     let a = l .before .before .before .before .before .args in
     let s = drop (a .at) (wordsOf (a .bytes .now)) in
     let room = length (a .words .now) in
@@ -85,7 +85,7 @@ words-from-spec =
     Inv-loop
     μ-loop
     left-after-requires
-    smaller-requires
+    lesser-requires
     loop-holds
     add-word
     word-requires

@@ -1,0 +1,142 @@
+-- What the reader, the writer and the lister promise, of whatever their contracts allow: an answer a, and what is left in the lent buffer.
+-- Assumes nothing.
+use mathlib.Core.Path.{_≡_, sym, _∙_}
+use mathlib.Core.Logic.{_↔_, _≢_, _⊎_, inl, inr}
+use mathlib.Core.List.{List, _∷_, _++_}
+use Prim.Native.Nat.{ℕ, _+_, _≤_, _<_}
+use lib.Dec.{T}
+use lib.ListN.{length, drop, getD}
+use denote.Ref.{now}
+use Rattle.laws.specs.Lists.{All}
+use Rattle.meaning.specs.declared.Answer.{Answer}
+use Rattle.meaning.specs.Words.{Word}
+use Rattle.meaning.specs.Registers.{cells, cell}
+use Rattle.meaning.specs.Grants.{grantsOf, grantsFine, termsOf, Terms}
+use Rattle.meaning.specs.Batch.{Cut, Longest, Holdable}
+use Rattle.meaning.specs.State.{valueAt, markAt, wellFormed, empty, Write, applyAll, allWrites, Reached}
+use Rattle.meaning.specs.Answers.{answer}
+use Rattle.meaning.specs.Writer.{written}
+use Rattle.meaning.specs.Lister.{listing}
+use Rattle.meaning.specs.Reasons.{CellFine, Reads, Writes, Lists}
+use Rattle.meaning.specs.Memory.{Inside, Apart, Safe, Stores}
+use Rattle.meaning.proofs.Promises as theory
+use Rattle.reader.proofs.read.Reads as read
+use Rattle.promises.specs.Contracts.{Reading, Writing, Listing}
+
+-- ==== The contracts
+
+-- what `reader::read` is proved to do, for any buffers that are lent to it
+pub reads : (κs : _) (a : _) (r : _) (s : _) → read.Learnt κs a r s → Reading (now (a .0)) (now (a .1 .0)) (now (a .1 .1 .0)) r (now (s .1 .1 .0))
+reads κs a r s p = p
+
+-- ==== Demand 3
+
+module _ (batch grants st : List ℕ) (a : Answer) (left : List ℕ) (read : Reading batch grants st a left) where
+  -- "a batch is accepted exactly when it is a row of whole permitted packets"; the place is then its length
+  pub accepted-exactly : T (wellFormed st) → T (grantsFine grants) → (a ≡ answer 0 (length batch)) ↔ Cut (termsOf grants) batch
+  accepted-exactly s l = let e = theory.accepted-exactly batch grants st s l in (λ x. e .0 (sym (read .0) ∙ x), λ c. read .0 ∙ e .1 c)
+
+  -- "the place of a refusal is the length of the longest beginning of the batch with which some permitted batch starts"
+  pub place-is-longest-beginning : T (wellFormed st) → T (grantsFine grants) → Holdable (termsOf grants) 2 → Holdable (termsOf grants) 3
+      → a .reason ≢ 0 → Longest (termsOf grants) batch (a .place)
+  place-is-longest-beginning s l h2 h3 n = rw (read .0) (theory.place-is-longest-beginning batch grants st s l h2 h3 (rw (read .0) at n))
+
+  -- "A refusal gives the reason and place that document 01 fixes": the answer is r at p exactly if the table says so
+  pub each-reason-exactly : (r p : ℕ) → (a ≡ answer r p) ↔ Reads batch grants st r p
+  each-reason-exactly r p = rw (read .0) (theory.each-reason-exactly batch grants st 0 .reader r p)
+
+  -- ==== Demand 2
+
+  -- "An accepted batch leaves the register state that its writes, taken one after another .. produce"
+  pub state-is-its-writes : a .reason ≡ 0 → (c : Cut (termsOf grants) batch) × (left ≡ applyAll st (allWrites (c .packets)))
+  state-is-its-writes e = rw (read .1) (theory.state-is-its-writes batch grants st (rw (read .0) at e))
+
+  -- "the last write holds"
+  pub last-write-holds : a .reason ≡ 0 → (c : Cut (termsOf grants) batch) (before : List Write) (w : Write) (later : List Write)
+      → allWrites (c .packets) ≡ before ++ w ∷ later → All (λ x. x .cell .0 ≢ w .cell .0) later
+      → (valueAt left (w .cell) ≡ w .value) × (markAt left (w .cell) ≡ 1)
+  last-write-holds e = rw (read .1) (theory.last-write-holds batch grants st (rw (read .0) at e))
+
+  -- and what no write names is as it was
+  pub else-as-before : a .reason ≡ 0 → (c : Cut (termsOf grants) batch) (i : ℕ)
+      → All (λ w. (i ≢ w .cell .0) × (i ≢ cells + w .cell .0)) (allWrites (c .packets)) → getD left i 0 ≡ getD st i 0
+  else-as-before e = rw (read .1) (theory.else-as-before batch grants st (rw (read .0) at e))
+
+  pub stays-well-formed : T (wellFormed st) → T (wellFormed left)
+  stays-well-formed s = rw (read .1) (theory.stays-well-formed batch grants st s)
+
+  -- "state and output buffers stay as they were"
+  pub refused-unread : a .reason ≢ 0 → left ≡ st
+  refused-unread n = read .1 ∙ theory.refusal-changes-nothing batch grants st .read (rw (read .0) at n)
+
+  -- ==== The fitter's question: "Can one scribble on the other?"
+
+  -- every address that an accepted batch writes lies, with its reach, inside one grant of its role
+  pub nothing-outside-a-grant : a .reason ≡ 0 → (c : Cut (termsOf grants) batch) × All (Stores (Inside (grantsOf grants))) (allWrites (c .packets))
+  nothing-outside-a-grant e = theory.nothing-outside-a-grant batch grants st (rw (read .0) at e)
+
+  -- and touches nothing that is granted to another program, where no memory is granted to both
+  pub two-programs-apart : (theirs : List ℕ) → Apart (grantsOf grants) (grantsOf theirs) → a .reason ≡ 0
+      → (c : Cut (termsOf grants) batch) × All (Stores (Safe (grantsOf grants) (grantsOf theirs))) (allWrites (c .packets))
+  two-programs-apart theirs apart e = theory.two-programs-apart batch grants theirs st apart (rw (read .0) at e)
+
+  -- the reader's reason and place do not depend on what the registers hold
+  pub answer-ignores-state : (other : List ℕ) (b : Answer) (after : List ℕ) → Reading batch grants other b after → T (wellFormed st) → T (wellFormed other) → a ≡ b
+  answer-ignores-state other b after also s o = read .0 ∙ theory.answer-ignores-state batch grants st other s o ∙ sym (also .0)
+
+-- "and it can be cut into them in one way only"
+pub one-cut : (g : Terms) (batch : List ℕ) (c d : Cut g batch) → c .packets ≡ d .packets
+one-cut = theory.one-cut
+
+-- ==== The writer
+
+module _ (st grants out : List ℕ) (a : Answer) (left : List ℕ) (write : Writing st grants out a left) where
+  -- "Given room, the writer turns each state that some batch reaches from empty into a batch doing so, under the same grants":
+  -- the words are `written st`, what is past them stays, and whatever the reader answers on them from the empty state is 0, and the state st
+  pub writer-reaches : T (grantsFine grants) → Reached (termsOf grants) st → length (written st) ≤ length out
+      → (a ≡ answer 0 (length (written st))) × (left ≡ written st ++ drop (length (written st)) out) × All Word (written st)
+      × ((b : Answer) (back : List ℕ) → Reading (written st) grants empty b back → (b ≡ answer 0 (length (written st))) × (back ≡ st))
+  writer-reaches l r room =
+      let t = theory.writer-reaches st grants out l r room in
+      (write .0 ∙ t .answered, write .1 ∙ t .left, t .words, λ b back read. (read .0 ∙ t .accepted, read .1 ∙ t .back))
+
+  -- "and refuses all others": with 1, or with 12 at the lowest marked cell that holds what it may not
+  pub writer-refuses-the-rest : T (grantsFine grants) → ¬ Reached (termsOf grants) st
+      → ((¬ T (wellFormed st)) × (a ≡ answer 1 0))
+      ⊎ ((c : ℕ) × (a ≡ answer 12 c) × (c < cells) × (¬ CellFine (termsOf grants) st (cell c)) × ((d : ℕ) → d < c → CellFine (termsOf grants) st (cell d)))
+  writer-refuses-the-rest l n =
+      elim (theory.writer-refuses-the-rest st grants (length out) l n) [
+        | inl x ↦ inl (x .0, write .0 ∙ x .1)
+        | inr x ↦ inr (x .0, write .0 ∙ x .1 .answered, x .1 .low, x .1 .bad, x .1 .lowest)
+      ]
+
+  -- "11: output shorter than needed", of a state that is reached: exactly if the room is less
+  pub writer-needs-its-room : T (grantsFine grants) → Reached (termsOf grants) st → (a ≡ answer 11 0) ↔ (length out < length (written st))
+  writer-needs-its-room l r = rw (write .0) (theory.writer-needs-its-room st grants (length out) l r)
+
+  pub each-writer-reason-exactly : (r p : ℕ) → (a ≡ answer r p) ↔ Writes st grants (length out) r p
+  each-writer-reason-exactly r p = rw (write .0) (theory.each-reason-exactly st grants out (length out) .writer r p)
+
+  pub refused-unwritten : a .reason ≢ 0 → left ≡ out
+  refused-unwritten n = write .1 ∙ theory.refusal-changes-nothing st grants out .write (rw (write .0) at n)
+
+-- "It needs at most 184 words"
+pub writer-needs-at-most-184 : (st : List ℕ) → length (written st) ≤ 184
+writer-needs-at-most-184 = theory.writer-needs-at-most-184
+
+-- ==== The lister
+
+module _ (st out : List ℕ) (a : Answer) (left : List ℕ) (list : Listing st out a left) where
+  -- the exact bytes; "bytes past its end stay as they were"
+  pub listing-is-exact : T (wellFormed st) → length (listing st) ≤ length out → (a ≡ answer 0 (length (listing st))) × (left ≡ listing st ++ drop (length (listing st)) out)
+  listing-is-exact s room = let t = theory.listing-is-exact st out s room in (list .0 ∙ t .answered, list .1 ∙ t .left)
+
+  pub each-lister-reason-exactly : (r p : ℕ) → (a ≡ answer r p) ↔ Lists st (length out) r p
+  each-lister-reason-exactly r p = rw (list .0) (theory.each-reason-exactly st out out (length out) .lister r p)
+
+  pub refused-unlisted : a .reason ≢ 0 → left ≡ out
+  refused-unlisted n = list .1 ∙ theory.refusal-changes-nothing st st out .list (rw (list .0) at n)
+
+-- "at most 2,568 bytes"
+pub listing-at-most-2568 : (st : List ℕ) → length (listing st) ≤ 2568
+listing-at-most-2568 = theory.listing-at-most-2568
