@@ -1,0 +1,145 @@
+-- The lines of marked cells: how many, how long, and a loop that stores them one behind the other.
+-- Assumes nothing.
+use mathlib.Core.Path.{_≡_, refl, sym, ap, _∙_}
+use mathlib.Core.List.{List, [], _∷_, _++_}
+use Prim.Native.Nat.{ℕ, zero, suc, _+_, _*_, _-_, _≤_, _<_}
+use native.Mathlib.Omega.{arith}
+use native.Mathlib.Nat.{zero-add, add-zero, suc-add, add-suc, mul-zero, mul-add, mul-one}
+use lib.ListN.{length, length-append}
+use lib.Seq.{sets, length-sets}
+use Rattle.laws.specs.Lists.{join}
+use Rattle.meaning.specs.declared.Cell.{Cell}
+use Rattle.meaning.specs.Registers.{cell}
+use Rattle.meaning.specs.State.{valueAt, markAt}
+use Rattle.meaning.specs.Writer.{ifMarked}
+use Rattle.states.specs.Marks.{oneIfMarked, markedIn}
+use Rattle.states.proofs.Counted.{marked-next, one-marked}
+use Rattle.lister.specs.Lines.{linesFrom}
+use Rattle.lister.proofs.Stores.{sets-behind}
+
+-- ---- lists with `ifMarked`
+
+if-marked {ℓ} : {A : Type ℓ} (m : ℕ) → (m ≡ 0 → ⊥) → {x : A} {xs : List A} → ifMarked m x xs ≡ x ∷ xs
+if-marked zero n = absurd (n refl)
+if-marked (suc m) n = refl
+
+if-length {ℓ} : {A : Type ℓ} (m : ℕ) (x : A) (xs : List A) → length (ifMarked m x xs) ≡ oneIfMarked m + length xs
+unfolding oneIfMarked
+if-length zero x xs = omega arith
+if-length (suc m) x xs = omega arith
+
+if-join {ℓ} : {A : Type ℓ} (m : ℕ) (x : List A) (xs : List (List A)) → length (join (ifMarked m x xs)) ≡ length x * oneIfMarked m + length (join xs)
+unfolding oneIfMarked
+if-join zero x xs = omega arith
+if-join (suc m) x xs = length-append x (join xs) ∙ omega arith
+
+if-append {ℓ} : {A : Type ℓ} (m : ℕ) (x : A) (xs ys : List A) → ifMarked m x xs ++ ys ≡ ifMarked m x (xs ++ ys)
+if-append zero x xs ys = refl
+if-append (suc m) x xs ys = refl
+
+one-at-most : (m : ℕ) → oneIfMarked m ≤ 1
+unfolding oneIfMarked
+one-at-most zero = omega arith
+one-at-most (suc m) = omega arith
+
+-- no more cells are marked than there are,
+at-most : (st : List ℕ) (i n : ℕ) → markedIn st i n ≤ n
+unfolding markedIn
+at-most st i zero = omega arith
+at-most st i (suc n) = omega (arith, one-at-most (markAt st (cell i)), at-most st (suc i) n)
+
+-- of either kind
+pub few : (st : List ℕ) → (markedIn st 0 84 ≤ 84) × (markedIn st 84 17 ≤ 17)
+few st = (at-most st 0 84, at-most st 84 17)
+
+module _ (line : Cell → ℕ → List ℕ) (st : List ℕ) where
+  -- a line for each marked cell
+  pub lines-count : (i n : ℕ) → length (linesFrom line st i n) ≡ markedIn st i n
+  unfolding linesFrom markedIn
+  lines-count i zero = refl
+  lines-count i (suc n) = if-length (markAt st (cell i)) _ (linesFrom line st (suc i) n) ∙ ap (λ (k : ℕ). oneIfMarked (markAt st (cell i)) + k) (lines-count (suc i) n)
+
+  -- lines of one width
+  pub lines-length : (wide : ℕ) → ((c : Cell) (v : ℕ) → length (line c v) ≡ wide) → (i n : ℕ) → length (join (linesFrom line st i n)) ≡ wide * markedIn st i n
+  unfolding linesFrom markedIn
+  lines-length wide h i zero = sym (mul-zero wide)
+  lines-length wide h i (suc n) =
+      if-join (markAt st (cell i)) (line (cell i) (valueAt st (cell i))) (linesFrom line st (suc i) n)
+      ∙ rw (h (cell i) (valueAt st (cell i)), lines-length wide h (suc i) n, mul-add wide (oneIfMarked (markAt st (cell i))) (markedIn st (suc i) n))
+
+  -- the lines of cells, then those of the cells after them
+  pub lines-add : (i n m : ℕ) → linesFrom line st i n ++ linesFrom line st (i + n) m ≡ linesFrom line st i (n + m)
+  unfolding linesFrom
+  lines-add i zero m = rw (add-zero, zero-add)
+  lines-add i (suc n) m =
+      rw (suc-add n m, add-suc i n, ← suc-add i n)
+      (if-append (markAt st (cell i)) _ (linesFrom line st (suc i) n) _
+      ∙ ap (ifMarked (markAt st (cell i)) (line (cell i) (valueAt st (cell i)))) (lines-add (suc i) n m))
+
+-- the first cell of a range, and the rest
+lines-next : (line : Cell → ℕ → List ℕ) (st : List ℕ) (i end : ℕ) → i < end
+    → linesFrom line st i (end - i) ≡ ifMarked (markAt st (cell i)) (line (cell i) (valueAt st (cell i))) (linesFrom line st (i + 1) (end - (i + 1)))
+unfolding linesFrom
+lines-next line st i end l =
+    let e : end - i ≡ suc (end - suc i) = omega arith in
+    let s : i + 1 ≡ suc i = omega arith in
+    rw (e, s)
+
+-- ---- the loop over the cells from `first` to before `end`
+
+-- The lines that are left, stored from `at` on over what stands there now, give what all lines give over what stood there; and they end at
+-- the same place.
+pub record Going (line : Cell → ℕ → List ℕ) (wide : ℕ) (st : List ℕ) (first end : ℕ) (out₀ : List ℕ) (start : ℕ) (out : List ℕ) (at c : ℕ) : Type 0 where
+  pub past : first ≤ c
+  pub within : c ≤ end
+  pub same : length out ≡ length out₀
+  pub place : at + wide * markedIn st c (end - c) ≡ start + wide * markedIn st first (end - first)
+  pub stored : sets out at (join (linesFrom line st c (end - c))) ≡ sets out₀ start (join (linesFrom line st first (end - first)))
+
+module _ {line : Cell → ℕ → List ℕ} {wide : ℕ} {st : List ℕ} {first end : ℕ} {out₀ : List ℕ} {start : ℕ} where
+  -- no cell is passed
+  pub begin : first ≤ end → Going line wide st first end out₀ start out₀ start first
+  begin h = record { past = omega arith; within = h; same = refl; place = refl; stored = refl }
+
+  module _ {out : List ℕ} {at c : ℕ} (g : Going line wide st first end out₀ start out at c) where
+    -- all cells are passed
+    pub ended : end ≤ c → out ≡ sets out₀ start (join (linesFrom line st first (end - first)))
+    unfolding linesFrom
+    ended h =
+        let none : end - c ≡ 0 = omega arith in
+        rw none at (g .stored)
+
+    module _ (l : c < end) where
+      -- an unmarked cell has no line
+      pub passed : markAt st (cell c) ≡ 0 → Going line wide st first end out₀ start out at (c + 1)
+      unfolding oneIfMarked
+      passed m = record {
+        past = omega arith;
+        within = omega arith;
+        same = g .same;
+        place = rw (marked-next st c end l, m, zero-add) at (g .place);
+        stored = rw (lines-next line st c end l, m) at (g .stored);
+      }
+
+      module _ (m : markAt st (cell c) ≡ 0 → ⊥) where
+        -- a marked cell has one,
+        more : wide * markedIn st c (end - c) ≡ wide + wide * markedIn st (c + 1) (end - (c + 1))
+        more = rw (marked-next st c end l, one-marked (markAt st (cell c)) m, mul-add, mul-one)
+
+        -- for which there is room,
+        pub fits : start + wide * markedIn st first (end - first) ≤ length out₀ → at + wide ≤ length out
+        fits h = omega (arith, more)
+
+        -- and it is stored
+        pub stored-line : (new : List ℕ) → new ≡ sets out at (line (cell c) (valueAt st (cell c))) → length (line (cell c) (valueAt st (cell c))) ≡ wide
+            → Going line wide st first end out₀ start new (at + wide) (c + 1)
+        stored-line new e w = record {
+          past = omega arith;
+          within = omega arith;
+          same = ap length e ∙ length-sets out at (line (cell c) (valueAt st (cell c))) ∙ g .same;
+          place = omega (arith, more);
+          stored =
+              rw e
+              (sets-behind out at (at + wide) (line (cell c) (valueAt st (cell c))) _ (omega arith)
+              ∙ (rw (lines-next line st c end l, if-marked (markAt st (cell c)) m) at (g .stored)));
+        }
