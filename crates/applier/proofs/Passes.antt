@@ -1,12 +1,14 @@
 -- A pass over words that writes something for each: one law for every such loop, and the two kinds of body as such passes.
 -- Assumes nothing.
 use mathlib.Core.Path.{_≡_, refl, sym, ap, _∙_}
-use mathlib.Core.List.{List, [], _∷_, _++_, append-assoc}
-use Prim.Native.Nat.{ℕ, zero, suc, _+_, _*_, _-_, _≤_, _<_}
+use mathlib.Core.Logic.{_⊎_, inl, inr}
+use mathlib.Core.List.{List, [], _∷_, _++_}
+use Prim.Native.Nat.{ℕ, zero, suc, _+_, _*_, _-_, _≤_, _<_, min}
 use native.Mathlib.Omega.{arith}
-use lib.ListN.{length, getD, take, drop, drop-of-length-le}
+use native.Mathlib.Decide.{decLt}
+use lib.ListN.{length, getD, take, drop, length-drop, drop-of-length-le}
 use lib.Seq.{take-all}
-use Rattle.laws.proofs.Rest.{rest}
+use Rattle.laws.proofs.Rest.{rest, part, part-length}
 use Rattle.meaning.specs.declared.Cell.{Cell}
 use Rattle.meaning.specs.declared.SubAddress.{SubAddress}
 use Rattle.meaning.specs.declared.VideoOffset.{VideoOffset}
@@ -20,11 +22,10 @@ use Rattle.meaning.specs.Batch.{named}
 use Rattle.meaning.specs.State.{Write, apply, applyAll, writeTo, writes3D, writesRun}
 use Rattle.meaning.specs.Positions.{kindOf, after, nextKind, nextLeft, goes, carries, writeAt, writesIn, writesFrom}
 use Rattle.meaning.proofs.States.{applied-append}
-use Rattle.meaning.proofs.Writes.{in-parameters, in-run}
+use Rattle.meaning.proofs.Writes.{in-parameters, in-run, between}
 use Rattle.meaning.proofs.Table.{Of}
 use Rattle.meaning.proofs.Stored.{Wide, found-3D, found-video}
-use Rattle.positions.specs.Stretches.{afterAll}
-use Rattle.positions.proofs.Stretches.{part, part-length}
+use Rattle.meaning.proofs.Stretches.{stretch-writes}
 
 -- ---- one write
 
@@ -106,9 +107,6 @@ word-written st o w f e ef = cc
 -- ---- the body of a packet, by the kind of its first word
 
 module _ (st ws : List ℕ) {kind : Kind} {left : List ℕ} where
-  pub body-parameter : (s : ℕ) → kind ≡ Parameter s → left ≡ applyAll st (writes3D s ws) → left ≡ applyAll st (writesIn kind ws)
-  body-parameter s e h = rw e (h ∙ ap (applyAll st) (sym (in-parameters s ws)))
-
   pub body-video : (o : VideoOffset) → kind ≡ Video o → left ≡ applyAll st (writesRun o ws) → left ≡ applyAll st (writesIn kind ws)
   body-video o e h = rw e (h ∙ ap (applyAll st) (sym (in-run o ws)))
 
@@ -128,39 +126,40 @@ body-none st ws e l = rw e (none ws l)
     none [] l = refl
     none (w ∷ ws) l = absurd (omega arith)
 
--- the writes of a stretch, then of what follows it
-pub stretch-writes : (kind : Kind) (k : ℕ) (xs ys : List ℕ) → length xs ≤ k
-    → writesFrom kind k (xs ++ ys) ≡ writesIn kind xs ++ writesFrom (afterAll kind xs) (k - length xs) ys
-unfolding writesFrom writesIn writeAt nextKind nextLeft afterAll
-stretch-writes kind k [] ys l = ap (λ (n : ℕ). writesFrom kind n ys) (omega arith)
-stretch-writes kind zero (x ∷ xs) ys l = absurd (omega arith)
-stretch-writes kind (suc k) (x ∷ xs) ys l =
-    ap (λ (m : List Write). writeTo (goes kind x) (carries kind x) ++ m)
-    (stretch-writes (after kind x) k xs ys (omega arith)
-    ∙ ap (λ (n : ℕ). writesIn (after kind x) xs ++ writesFrom (afterAll (after kind x) xs) n ys) (omega arith))
-    ∙ sym (append-assoc (writeTo (goes kind x) (carries kind x)) _ _)
+-- ---- packet after packet
 
--- ---- one step of the loop over packets
-
-module _ (ws target st : List ℕ) (i : ℕ) (kind : Kind) (k : ℕ) (inv : applyAll st (writesFrom kind k (drop i ws)) ≡ target) where
-  -- a header writes nothing
-  pub header-writes : i < length ws → k ≡ 0 → (next : Kind) (n : ℕ) → next ≡ kindOf (getD ws i 0) → n ≡ count (getD ws i 0)
-      → applyAll st (writesFrom next n (drop (i + 1) ws)) ≡ target
+module _ (ws target st : List ℕ) (i : ℕ) (inv : applyAll st (writesFrom Setting 0 (drop i ws)) ≡ target) where
+  pub packet-applied : i < length ws → (n m : ℕ) → n ≡ count (getD ws i 0) → m ≡ min n (length ws - (i + 1)) → {left : List ℕ}
+      → left ≡ applyAll st (writesIn (kindOf (getD ws i 0)) (take (i + 1 + m - (i + 1)) (drop (i + 1) ws)))
+      → applyAll left (writesFrom Setting 0 (drop (i + 1 + m) ws)) ≡ target
   unfolding writesFrom writeAt nextKind nextLeft
-  header-writes h z next n e f = let here = rw (z, rest ws i h) at inv in rw (e, f) here
+  packet-applied h n m en em e =
+      let head = getD ws i 0 in
+      let xs = take (i + 1 + m - (i + 1)) (drop (i + 1) ws) in
+      let ys = drop (i + 1 + m) ws in
+      let long = part-length ws (i + 1) m (omega arith) in
+      let few : length xs ≤ count head = omega (arith, long) in
+      let split = ap (writesFrom (kindOf head) (count head)) (part ws (i + 1) m) ∙ stretch-writes (kindOf head) (count head) xs ys few in
+      let here = rw (rest ws i h) at inv in
+      rw e (
+      sym (applied-append st (writesIn (kindOf head) xs) (writesFrom Setting 0 ys))
+      ∙ ap (λ (x : List Write). applyAll st (writesIn (kindOf head) xs ++ x)) (sym (rest-writes _ (count head) (length xs) ys (decided long)))
+      ∙ ap (applyAll st) (sym split) ∙ here)
+    where
+      -- the packet is whole, or nothing follows it
+      decided : length (take (i + 1 + m - (i + 1)) (drop (i + 1) ws)) ≡ m
+          → (length (take (i + 1 + m - (i + 1)) (drop (i + 1) ws)) ≡ count (getD ws i 0)) ⊎ (length (drop (i + 1 + m) ws) ≡ 0)
+      decided long =
+          elim (decLt m (count (getD ws i 0))) [
+            | yes k ↦ inr (length-drop (i + 1 + m) ws ∙ omega arith)
+            | no k ↦ inl (omega (arith, long))
+          ]
 
-  -- the words of a body that are at hand
-  pub body-writes : (n : ℕ) → i + n ≤ length ws → n ≤ k → (next : Kind) → next ≡ afterAll kind (take (i + n - i) (drop i ws))
-      → (left : List ℕ) → left ≡ applyAll st (writesIn kind (take (i + n - i) (drop i ws))) → applyAll left (writesFrom next (k - n) (drop (i + n) ws)) ≡ target
-  body-writes n h l next f left e =
-      let xs = take (i + n - i) (drop i ws) in
-      let m = part-length ws i n h in
-      rw (f, e) (
-      sym (applied-append st (writesIn kind xs) (writesFrom (afterAll kind xs) (k - n) (drop (i + n) ws)))
-      ∙ ap (λ (x : ℕ). applyAll st (writesIn kind xs ++ writesFrom (afterAll kind xs) (k - x) (drop (i + n) ws))) (sym m)
-      ∙ ap (applyAll st) (sym (stretch-writes kind k xs (drop (i + n) ws) (omega (arith, m))))
-      ∙ ap (λ (l : List ℕ). applyAll st (writesFrom kind k l)) (sym (part ws i n)) ∙ inv)
+      rest-writes : (kind : Kind) (k x : ℕ) (ys : List ℕ) → (x ≡ k) ⊎ (length ys ≡ 0) → writesFrom kind (k - x) ys ≡ writesFrom Setting 0 ys
+      rest-writes kind k x ys (inl e) = let z : k - x ≡ 0 = omega arith in rw z (between kind Setting ys)
+      rest-writes kind k x [] (inr e) = refl
+      rest-writes kind k x (y ∷ ys) (inr e) = absurd (omega arith)
 
-  pub end-writes : length ws ≤ i → st ≡ target
+  pub all-applied : length ws ≤ i → st ≡ target
   unfolding writesFrom applyAll
-  end-writes h = rw (drop-of-length-le ws h) at inv
+  all-applied h = rw (drop-of-length-le ws h) at inv

@@ -5,13 +5,10 @@ ghost use lib.ListN.{length};
 ghost use Rattle.meaning.specs.Registers.{cells};
 ghost use Rattle.meaning.specs.State.{stateWords, writeTo, writes3D, writesRun};
 ghost use Rattle.meaning.specs.State as state_of;
-ghost use Rattle.meaning.specs.Positions.{writesIn, writesFrom};
+ghost use Rattle.meaning.specs.Positions.{kindOf, writesIn, writesOf};
 ghost use Rattle.meaning.proofs.Table.{Of};
-ghost use Rattle.positions.specs.Stretches.{positionAfter, Bounded};
 use meaning::Cell;
 use meaning::Found;
-use meaning::Kind;
-use meaning::Position;
 use meaning::VideoOffset;
 
 // A write sets the cell's value and marks it.
@@ -70,47 +67,33 @@ fn apply_run(words: &[u32], offset: VideoOffset, state: &mut [u32])
 }
 
 // The words of one packet's body, or those of them that are at hand.
-fn apply_body(words: &[u32], kind: Kind, state: &mut [u32])
+fn apply_body(words: &[u32], header: u32, state: &mut [u32])
     requires whole { ⌜ length (now state) ≡ stateWords ⌝ }
-    requires bounded { ⌜ Bounded kind (length (now words)) ⌝ }
-    ensures stored { λ _. ⌜ now (state .exit) ≡ state_of.applyAll (now (state .entry)) (writesIn kind (now (words .entry))) ⌝ }
+    requires few { ⌜ length (now words) < 2 ^ 16 ⌝ }
+    ensures stored { λ _. ⌜ now (state .exit) ≡ state_of.applyAll (now (state .entry)) (writesIn (kindOf header) (now (words .entry))) ⌝ }
 {
-    match kind {
-        Kind::Setting => {
-            if 0 < words.len() {
-                apply_parameters(&words[1..], words[0], state);
-            }
-        }
-        Kind::Parameter(setting) => apply_parameters(words, setting, state),
-        Kind::Video(offset) => apply_run(words, offset, state),
+    let offset = fields::offset(header);
+    if offset != 0x043c {
+        apply_run(words, VideoOffset(offset), state);
+        return;
+    }
+    if 0 < words.len() {
+        apply_parameters(&words[1..], words[0], state);
     }
 }
 
-// Applies the writes of the words from a position on. The answer is the position after them.
-pub fn apply(words: &[u32], from: Position, state: &mut [u32]) -> Position
+// Applies the writes of a batch, packet by packet.
+pub fn apply(words: &[u32], state: &mut [u32])
     requires whole { ⌜ length (now state) ≡ stateWords ⌝ }
-    requires bounded { ⌜ Bounded (from .kind) (from .left) ⌝ }
-    ensures position { λ r. ⌜ r ≡ positionAfter from (now (words .entry)) ⌝ }
-    ensures state { λ _. ⌜ now (state .exit) ≡ state_of.applyAll (now (state .entry)) (writesFrom (from .kind) (from .left) (now (words .entry))) ⌝ }
+    ensures state { λ _. ⌜ now (state .exit) ≡ state_of.applyAll (now (state .entry)) (writesOf (now (words .entry))) ⌝ }
 {
-    let mut kind = from.kind;
-    let mut left = from.left;
     let mut i = 0;
     while i < words.len() {
-        if left == 0 {
-            let header = words[i];
-            kind = positions::kind_of(header);
-            left = fields::count(header) as usize;
-            i += 1;
-        } else {
-            let n = numbers::lesser(left, words.len() - i);
-            let end = i + n;
-            let body = &words[i..end];
-            apply_body(body, kind, state);
-            kind = positions::after_words(kind, body);
-            left -= n;
-            i = end;
-        }
+        let header = words[i];
+        let from = i + 1;
+        let n = fields::count(header) as usize;
+        let end = from + numbers::lesser(n, words.len() - from);
+        apply_body(&words[from..end], header, state);
+        i = end;
     }
-    Position { kind, left }
 }

@@ -1,18 +1,18 @@
--- Checking by stretches comes to checking word by word, and checking all the words of a batch comes to the reader's answer.
+-- Checking packet by packet comes to checking word by word, and that comes to the reader's answer.
 -- Assumes nothing.
 use mathlib.Core.Path.{_≡_, refl, sym, ap, _∙_}
 use mathlib.Core.Bool.{true, false}
 use mathlib.Core.List.{List, [], _∷_, _++_}
-use Prim.Native.Nat.{ℕ, zero, suc, _+_, _*_, _-_, _≤_, _<_, _^_}
+use Prim.Native.Nat.{ℕ, zero, suc, _+_, _*_, _-_, _≤_, _<_, _^_, min}
 use native.Mathlib.Omega.{arith}
-use lib.ListN.{length, getD, take, drop, drop-of-length-le}
-use lib.Seq.{take-all}
+use native.Mathlib.Decide.{decLt}
+use lib.ListN.{length, getD, take, drop, take-append-drop, length-drop, drop-of-length-le}
+use lib.Seq.{take-all, length-take-le, drop-drop}
 use Rattle.laws.proofs.Rest.{rest}
 use Rattle.meaning.specs.declared.SubAddress.{SubAddress}
 use Rattle.meaning.specs.declared.VideoOffset.{VideoOffset}
 use Rattle.meaning.specs.declared.Kind.{Kind}
 use Rattle.meaning.specs.declared.Kind.the-variants.{Setting, Parameter, Video}
-use Rattle.meaning.specs.declared.Position.{Position}
 use Rattle.meaning.specs.declared.Answer.{Answer}
 use Rattle.meaning.specs.Words.{count, following, paraType, paraSubType, subAddress, data24}
 use Rattle.meaning.specs.Registers.{find3D, findVideo}
@@ -20,12 +20,10 @@ use Rattle.meaning.specs.Grants.{Terms}
 use Rattle.meaning.specs.Batch.{allowed}
 use Rattle.meaning.specs.Positions.{kindOf, after, nextKind, nextLeft}
 use Rattle.meaning.specs.Answers.{badSetting, noRegister, badCount, success, endsInside, answer}
-use Rattle.meaning.specs.Reader.{unless, headerReason, foundReason, wordReason, judge, onward, follow, ended, run, batchAnswer}
+use Rattle.meaning.specs.Reader.{unless, headerReason, foundReason, wordReason, judge, follow, ended, run, batchAnswer}
 use Rattle.meaning.proofs.Stored.{data-small}
-use Rattle.positions.specs.Stretches.{afterAll}
-use Rattle.positions.proofs.Stretches.{part, part-length}
-use Rattle.checker.specs.Checks.{orElse, bodyFrom, passed, refused, orRefused, checkedFrom, ends, closing}
-use Rattle.checker.specs.declared.Checked.{Checked}
+use Rattle.meaning.proofs.Stretches.{afterAll}
+use Rattle.checker.specs.Checks.{orElse, bodyFrom, ends, inFull, packetFrom}
 
 -- ---- a reason that is 0, and one that is not
 
@@ -35,10 +33,6 @@ else-on i e = rw e
 pub else-stop : (r i : ℕ) (more : Answer) → (r ≡ 0 → ⊥) → orElse r i more ≡ answer r i
 else-stop zero i more n = absurd (n refl)
 else-stop (suc r) i more n = refl
-
-refused-stop : (r i : ℕ) (more : Checked) → (r ≡ 0 → ⊥) → orRefused r i more ≡ refused r i
-refused-stop zero i more n = absurd (n refl)
-refused-stop (suc r) i more n = refl
 
 -- ---- a pass over words that asks something of each: one law for every such loop
 
@@ -139,79 +133,22 @@ module _ (g : Terms) (start : ℕ) (ws : List ℕ) {kind : Kind} where
           let m : start + 1 ≡ suc start = omega arith in
           rw f (h ∙ ap (bodyFrom g (start + 1) (Parameter w)) (take-all (suc (length ws) - 1) ws (omega arith)) ∙ ap (λ (x : ℕ). bodyFrom g x (Parameter w) ws) m)
 
+  -- a word that is no setting
   pub body-known : (known : Kind) → kind ≡ known → {a : Answer} → a ≡ bodyFrom g start known ws → a ≡ bodyFrom g start kind ws
   body-known known e h = rw e h
 
--- ---- a stretch: what its words come to, and then what follows it
+-- ---- words from a position on
 
-abbrev pub afterBody : Answer → Checked → Checked
-afterBody a more = orRefused (a .reason) (a .place) more
+-- the first reason and its place, or what their end gives
+unfoldable pub answerFrom : Terms → ℕ → Kind → ℕ → List ℕ → Answer
+answerFrom g i kind k [] = ends k i
+answerFrom g i kind k (w ∷ ws) = orElse (judge g kind k w) i (answerFrom g (suc i) (nextKind kind k w) (nextLeft k w) ws)
 
-body-else : (r i : ℕ) (a : Answer) (more : Checked) → afterBody (orElse r i a) more ≡ orRefused r i (afterBody a more)
-body-else zero i a more = refl
-body-else (suc r) i a more = refl
-
-stretch : (g : Terms) (i : ℕ) (kind : Kind) (k : ℕ) (xs ys : List ℕ) → length xs ≤ k
-    → checkedFrom g i (record { kind = kind; left = k }) (xs ++ ys)
-    ≡ afterBody (bodyFrom g i kind xs) (checkedFrom g (i + length xs) (record { kind = afterAll kind xs; left = k - length xs }) ys)
-unfolding checkedFrom bodyFrom afterAll judge nextKind nextLeft
-stretch g i kind k [] ys l =
-    let e : k ≡ k - 0 = omega arith in
-    let f : i ≡ i + 0 = omega arith in
-    ap (λ (n : ℕ). checkedFrom g n (record { kind = kind; left = k }) ys) f ∙ ap (λ (n : ℕ). checkedFrom g (i + 0) (record { kind = kind; left = n }) ys) e
-stretch g i kind zero (x ∷ xs) ys l = absurd (omega arith)
-stretch g i kind (suc k) (x ∷ xs) ys l =
-    let e : suc i + length xs ≡ i + suc (length xs) = omega arith in
-    let f : k - length xs ≡ suc k - suc (length xs) = omega arith in
-    ap (orRefused (wordReason g kind x) i) (
-    stretch g (suc i) (after kind x) k xs ys (omega arith)
-    ∙ ap (λ (n : ℕ). afterBody (bodyFrom g (suc i) (after kind x) xs) (checkedFrom g n (record { kind = afterAll (after kind x) xs; left = k - length xs }) ys)) e
-    ∙ ap (λ (n : ℕ). afterBody (bodyFrom g (suc i) (after kind x) xs) (checkedFrom g (i + suc (length xs)) (record { kind = afterAll (after kind x) xs; left = n }) ys)) f)
-    ∙ sym (body-else (wordReason g kind x) i _ _)
-
--- ---- one step of the loop over packets
-
-module _ (g : Terms) (ws : List ℕ) (target : Checked) (i : ℕ) (kind : Kind) (k : ℕ)
-    (inv : checkedFrom g i (record { kind = kind; left = k }) (drop i ws) ≡ target) where
-  at-header : i < length ws → k ≡ 0
-      → orRefused (headerReason (getD ws i 0)) i (checkedFrom g (i + 1) (record { kind = kindOf (getD ws i 0); left = count (getD ws i 0) }) (drop (i + 1) ws)) ≡ target
-  unfolding checkedFrom judge nextKind nextLeft
-  at-header h z =
-      let next : i + 1 ≡ suc i = omega arith in
-      let here = rw (z, rest ws i h) at inv in
-      ap (λ (n : ℕ). orRefused (headerReason (getD ws i 0)) i (checkedFrom g n (record { kind = kindOf (getD ws i 0); left = count (getD ws i 0) }) (drop (i + 1) ws))) next ∙ here
-
-  pub header-on : i < length ws → k ≡ 0 → {r : ℕ} → r ≡ headerReason (getD ws i 0) → r ≡ 0
-      → (next : Kind) (n : ℕ) → next ≡ kindOf (getD ws i 0) → n ≡ count (getD ws i 0)
-      → checkedFrom g (i + 1) (record { kind = next; left = n }) (drop (i + 1) ws) ≡ target
-  header-on h z e o next n p q = let here = rw (sym e ∙ o) at (at-header h z) in rw (p, q) here
-
-  pub header-stop : i < length ws → k ≡ 0 → {r : ℕ} → r ≡ headerReason (getD ws i 0) → (r ≡ 0 → ⊥) → refused r i ≡ target
-  header-stop h z {r} e n = ap (λ (x : ℕ). refused x i) e ∙ sym (refused-stop (headerReason (getD ws i 0)) i _ (λ x. n (e ∙ x))) ∙ at-header h z
-
-  at-body : (n : ℕ) → i + n ≤ length ws → n ≤ k
-      → afterBody (bodyFrom g i kind (take (i + n - i) (drop i ws)))
-      (checkedFrom g (i + n) (record { kind = afterAll kind (take (i + n - i) (drop i ws)); left = k - n }) (drop (i + n) ws)) ≡ target
-  at-body n h l =
-      let xs = take (i + n - i) (drop i ws) in
-      let m = part-length ws i n h in
-      ap (λ (x : ℕ). afterBody (bodyFrom g i kind xs) (checkedFrom g (i + x) (record { kind = afterAll kind xs; left = k - x }) (drop (i + n) ws))) (sym m)
-      ∙ sym (stretch g i kind k xs (drop (i + n) ws) (omega (arith, m)))
-      ∙ ap (checkedFrom g i (record { kind = kind; left = k })) (sym (part ws i n)) ∙ inv
-
-  module _ (n : ℕ) (h : i + n ≤ length ws) (l : n ≤ k) {a : Answer} (e : a ≡ bodyFrom g i kind (take (i + n - i) (drop i ws))) where
-    pub body-on : a .reason ≡ 0 → (next : Kind) → next ≡ afterAll kind (take (i + n - i) (drop i ws))
-        → checkedFrom g (i + n) (record { kind = next; left = k - n }) (drop (i + n) ws) ≡ target
-    body-on z next p = let here = rw (sym e, z) at (at-body n h l) in rw p here
-
-    pub body-stop : (a .reason ≡ 0 → ⊥) → refused (a .reason) (a .place) ≡ target
-    body-stop z = sym (refused-stop (a .reason) (a .place) _ z) ∙ (let here = rw (sym e) at (at-body n h l) in here)
-
-  pub all-passed : length ws ≤ i → passed i (record { kind = kind; left = k }) ≡ target
-  unfolding checkedFrom
-  all-passed h = rw (drop-of-length-le ws h) at inv
-
--- ---- the reader's answer
+-- between packets the kind does not matter
+between : (g : Terms) (i : ℕ) (x y : Kind) (ws : List ℕ) → answerFrom g i x 0 ws ≡ answerFrom g i y 0 ws
+unfolding answerFrom judge nextKind nextLeft
+between g i x y [] = refl
+between g i x y (w ∷ ws) = refl
 
 -- an answer with its place counted from i on
 abbrev counted : ℕ → Answer → Answer
@@ -221,42 +158,258 @@ end-counted : (k i : ℕ) → ends k i ≡ counted i (ended k)
 end-counted zero i = ap (answer success) (omega arith)
 end-counted (suc k) i = ap (answer endsInside) (omega arith)
 
-step-counted : (r i : ℕ) (c : Checked) (a : Answer) → closing c ≡ counted (suc i) a → closing (orRefused r i c) ≡ counted i (follow r a)
-unfolding closing
-step-counted zero i c a e = e ∙ ap (answer (a .reason)) (omega arith)
-step-counted (suc r) i c a e = ap (answer (suc r)) (omega arith)
+word-counted : (r i : ℕ) (x y : Answer) → x ≡ counted (suc i) y → orElse r i x ≡ counted i (follow r y)
+word-counted zero i x y e = e ∙ ap (answer (y .reason)) (omega arith)
+word-counted (suc r) i x y e = ap (answer (suc r)) (omega arith)
 
-checked-run : (g : Terms) (i : ℕ) (kind : Kind) (k : ℕ) (ws : List ℕ) → closing (checkedFrom g i (record { kind = kind; left = k }) ws) ≡ counted i (run g kind k ws)
-unfolding checkedFrom run closing
-checked-run g i kind k [] = end-counted k i
-checked-run g i kind k (w ∷ ws) =
-    step-counted (judge g kind k w) i _ (run g (nextKind kind k w) (nextLeft k w) ws) (checked-run g (suc i) (nextKind kind k w) (nextLeft k w) ws)
+from-run : (g : Terms) (i : ℕ) (kind : Kind) (k : ℕ) (ws : List ℕ) → answerFrom g i kind k ws ≡ counted i (run g kind k ws)
+unfolding answerFrom run
+from-run g i kind k [] = end-counted k i
+from-run g i kind k (w ∷ ws) = word-counted (judge g kind k w) i _ _ (from-run g (suc i) (nextKind kind k w) (nextLeft k w) ws)
 
--- what a whole batch comes to
-pub answered : (g : Terms) (ws : List ℕ) → closing (checkedFrom g 0 (record { kind = Setting; left = 0 }) ws) ≡ batchAnswer g ws
-unfolding batchAnswer
-answered g ws = checked-run g 0 Setting 0 ws ∙ ap (answer (run g Setting 0 ws .reason)) (omega arith)
+-- ---- a stretch: what its words come to, and then what follows it
 
--- ---- closing, by what checking came to
+abbrev afterBody : Answer → Answer → Answer
+afterBody a more = orElse (a .reason) (a .place) more
 
-module _ (c : Checked) where
-  pub closed-refused : (c .reason ≡ 0 → ⊥) → answer (c .reason) (c .place) ≡ closing c
-  unfolding closing
-  closed-refused n = sym (else-stop (c .reason) (c .place) _ n)
+body-else : (r i : ℕ) (a more : Answer) → afterBody (orElse r i a) more ≡ orElse r i (afterBody a more)
+body-else zero i a more = refl
+body-else (suc r) i a more = refl
 
-  pub closed-inside : c .reason ≡ 0 → (c .at .left ≡ 0 → ⊥) → answer endsInside (c .place) ≡ closing c
-  unfolding closing
-  closed-inside z n = rw z (inside (c .at .left) n)
+stretch : (g : Terms) (i : ℕ) (kind : Kind) (k : ℕ) (xs ys : List ℕ) → length xs ≤ k
+    → answerFrom g i kind k (xs ++ ys) ≡ afterBody (bodyFrom g i kind xs) (answerFrom g (i + length xs) (afterAll kind xs) (k - length xs) ys)
+unfolding answerFrom bodyFrom afterAll judge nextKind nextLeft
+stretch g i kind k [] ys l =
+    let e : k ≡ k - 0 = omega arith in
+    let f : i ≡ i + 0 = omega arith in
+    ap (λ (n : ℕ). answerFrom g n kind k ys) f ∙ ap (λ (n : ℕ). answerFrom g (i + 0) kind n ys) e
+stretch g i kind zero (x ∷ xs) ys l = absurd (omega arith)
+stretch g i kind (suc k) (x ∷ xs) ys l =
+    let e : suc i + length xs ≡ i + suc (length xs) = omega arith in
+    let f : k - length xs ≡ suc k - suc (length xs) = omega arith in
+    let next = after kind x in
+    ap (orElse (wordReason g kind x) i) (
+    stretch g (suc i) next k xs ys (omega arith)
+    ∙ ap (λ (n : ℕ). afterBody (bodyFrom g (suc i) next xs) (answerFrom g n (afterAll next xs) (k - length xs) ys)) e
+    ∙ ap (λ (n : ℕ). afterBody (bodyFrom g (suc i) next xs) (answerFrom g (i + suc (length xs)) (afterAll next xs) n ys)) f)
+    ∙ sym (body-else (wordReason g kind x) i _ _)
+
+-- where nothing speaks against a body, its place is the one after it
+place-else : (r i : ℕ) (a : Answer) (p : ℕ) → (a .reason ≡ 0 → a .place ≡ p) → orElse r i a .reason ≡ 0 → orElse r i a .place ≡ p
+place-else zero i a p h e = h e
+place-else (suc r) i a p h e = absurd (omega arith)
+
+pub body-place : (g : Terms) (i : ℕ) (kind : Kind) (xs : List ℕ) → bodyFrom g i kind xs .reason ≡ 0 → bodyFrom g i kind xs .place ≡ i + length xs
+unfolding bodyFrom
+body-place g i kind [] e = omega arith
+body-place g i kind (x ∷ xs) e =
+    place-else (wordReason g kind x) i (bodyFrom g (suc i) (after kind x) xs) (i + suc (length xs)) (λ z. body-place g (suc i) (after kind x) xs z ∙ omega arith) e
+
+-- ---- a packet, and what follows it
+
+-- what stands after a packet's header and the words of its body that are at hand
+abbrev tailOf : Terms → ℕ → ℕ → List ℕ → Answer
+tailOf g i h ws =
+    let xs = take (count h) ws in answerFrom g (suc i + length xs) (afterAll (kindOf h) xs) (count h - length xs) (drop (count h) ws)
+
+packet-tail : (g : Terms) (i : ℕ) (kind : Kind) (h : ℕ) (ws : List ℕ)
+    → answerFrom g i kind 0 (h ∷ ws) ≡ orElse (headerReason h) i (afterBody (bodyFrom g (suc i) (kindOf h) (take (count h) ws)) (tailOf g i h ws))
+unfolding answerFrom judge nextKind nextLeft
+packet-tail g i kind h ws =
+    ap (orElse (headerReason h) i) (
+    ap (answerFrom g (suc i) (kindOf h) (count h)) (sym (take-append-drop (count h) ws))
+    ∙ stretch g (suc i) (kindOf h) (count h) (take (count h) ws) (drop (count h) ws) (length-take (count h) ws))
+  where
+    length-take : (n : ℕ) (l : List ℕ) → length (take n l) ≤ n
+    length-take zero l = omega arith
+    length-take (suc n) [] = omega arith
+    length-take (suc n) (x ∷ l) = omega (arith, length-take n l)
+
+-- a packet that is whole is followed by the next; one that is not, by nothing
+tail-whole : (g : Terms) (i h : ℕ) (ws : List ℕ) → count h ≤ length ws → tailOf g i h ws ≡ answerFrom g (suc i + count h) Setting 0 (drop (count h) ws)
+tail-whole g i h ws l =
+    let m = length-take-le (count h) ws l in
+    let z : count h - count h ≡ 0 = omega arith in
+    rw (m, z) (between g (suc i + count h) _ Setting (drop (count h) ws))
+
+tail-short : (g : Terms) (i h : ℕ) (ws : List ℕ) → length ws < count h → tailOf g i h ws ≡ ends (count h - length ws) (suc i + length ws)
+unfolding answerFrom
+tail-short g i h ws l =
+    let short : length ws ≤ count h = omega arith in
+    rw (take-all (count h) ws short, drop-of-length-le ws short)
+
+-- by the header's reason, the body's answer and what is missing
+module _ (r i : ℕ) (b : Answer) (missing : ℕ) (tail : Answer) where
+  stops : (b .reason ≡ 0 → (missing ≡ 0 → ⊥) → tail ≡ ends missing (b .place)) → (orElse r i (inFull b missing) .reason ≡ 0 → ⊥)
+      → orElse r i (afterBody b tail) ≡ orElse r i (inFull b missing)
+  stops h n = header r n
     where
-      inside : (k : ℕ) → (k ≡ 0 → ⊥) → answer endsInside (c .place) ≡ ends k (c .place)
-      inside zero m = absurd (m refl)
-      inside (suc k) m = refl
+      full : (m : ℕ) → m ≡ missing → (ends m (b .place) .reason ≡ 0 → ⊥) → b .reason ≡ 0 → tail ≡ ends m (b .place)
+      full zero e k z = absurd (k refl)
+      full (suc m) e k z = h z (λ x. absurd (omega arith)) ∙ ap (λ (y : ℕ). ends y (b .place)) (sym e)
 
-  pub closed-whole : c .reason ≡ 0 → c .at .left ≡ 0 → answer success (c .place) ≡ closing c
-  unfolding closing
-  closed-whole z l = rw (z, l)
+      body : (x : ℕ) → b .reason ≡ x → (orElse x (b .place) (ends missing (b .place)) .reason ≡ 0 → ⊥)
+          → orElse x (b .place) tail ≡ orElse x (b .place) (ends missing (b .place))
+      body zero e k = full missing refl k e
+      body (suc x) e k = refl
 
--- the answer, from what checking from the first header on came to
-pub answered-from : (g : Terms) (ws : List ℕ) {p : Position} {c : Checked} {a : Answer} → p ≡ record { kind = Setting; left = 0 }
-    → c ≡ checkedFrom g 0 p ws → a ≡ closing c → a ≡ batchAnswer g ws
-answered-from g ws e f h = h ∙ ap closing f ∙ (rw e (answered g ws))
+      header : (x : ℕ) → (orElse x i (inFull b missing) .reason ≡ 0 → ⊥) → orElse x i (afterBody b tail) ≡ orElse x i (inFull b missing)
+      header zero k = body (b .reason) refl k
+      header (suc x) k = refl
+
+  goes-on : orElse r i (inFull b missing) .reason ≡ 0 → (r ≡ 0) × (b .reason ≡ 0) × (missing ≡ 0)
+  goes-on e = header r refl e
+    where
+      full : (m : ℕ) → ends m (b .place) .reason ≡ 0 → m ≡ 0
+      full zero k = refl
+      full (suc m) k = absurd (omega arith)
+
+      body : (x : ℕ) → b .reason ≡ x → orElse x (b .place) (ends missing (b .place)) .reason ≡ 0 → (b .reason ≡ 0) × (missing ≡ 0)
+      body zero y k = (y, full missing k)
+      body (suc x) y k = absurd (omega arith)
+
+      header : (x : ℕ) → r ≡ x → orElse x i (inFull b missing) .reason ≡ 0 → (r ≡ 0) × (b .reason ≡ 0) × (missing ≡ 0)
+      header zero y k = let p = body (b .reason) refl k in (y, p .0, p .1)
+      header (suc x) y k = absurd (omega arith)
+
+-- ---- one packet, from what the code reads of it
+
+module _ (g : Terms) (ws : List ℕ) (at : ℕ) (l : at < length ws) where
+  abbrev after-header : List ℕ
+  after-header = drop (at + 1) ws
+
+  here-is : packetFrom g at (getD ws at 0 ∷ after-header) ≡ packetFrom g at (drop at ws)
+  here-is = sym (ap (packetFrom g at) (rest ws at l))
+
+  pub header-refused : {r : ℕ} → r ≡ headerReason (getD ws at 0) → (r ≡ 0 → ⊥) → answer r at ≡ packetFrom g at (drop at ws)
+  unfolding packetFrom
+  header-refused {r} e n = ap (λ (x : ℕ). answer x at) e ∙ sym (else-stop (headerReason (getD ws at 0)) at _ (λ z. n (e ∙ z))) ∙ here-is
+
+  module _ {r : ℕ} (e : r ≡ headerReason (getD ws at 0)) (z : r ≡ 0) (n m : ℕ) (en : n ≡ count (getD ws at 0)) (em : m ≡ min n (length ws - (at + 1)))
+      {b : Answer} (eb : b ≡ bodyFrom g (at + 1) (kindOf (getD ws at 0)) (take (at + 1 + m - (at + 1)) after-header)) where
+    abbrev wanted : ℕ
+    wanted = count (getD ws at 0)
+
+    abbrev body : Answer
+    body = bodyFrom g (suc at) (kindOf (getD ws at 0)) (take wanted after-header)
+
+    long : length after-header ≡ length ws - (at + 1)
+    long = length-drop (at + 1) ws
+
+    body-is : b ≡ body
+    body-is =
+        let next : at + 1 ≡ suc at = omega arith in
+        eb ∙ ap (λ (x : ℕ). bodyFrom g x (kindOf (getD ws at 0)) (take (at + 1 + m - (at + 1)) after-header)) next
+        ∙ ap (bodyFrom g (suc at) (kindOf (getD ws at 0))) taken
+      where
+        taken : take (at + 1 + m - (at + 1)) after-header ≡ take wanted after-header
+        taken =
+            elim (decLt wanted (length after-header)) [
+              | yes k ↦ let same : at + 1 + m - (at + 1) ≡ wanted = omega (arith, long) in rw same
+              | no k ↦ take-all (at + 1 + m - (at + 1)) after-header (omega (arith, long)) ∙ sym (take-all wanted after-header (omega arith))
+            ]
+
+    packet-is : inFull b (wanted - length after-header) ≡ packetFrom g at (drop at ws)
+    unfolding packetFrom
+    packet-is = rw body-is (sym (else-on at (sym e ∙ z)) ∙ here-is)
+
+    pub body-refused-packet : (b .reason ≡ 0 → ⊥) → b ≡ packetFrom g at (drop at ws)
+    body-refused-packet k = sym (else-stop (b .reason) (b .place) _ k) ∙ packet-is
+
+    module _ (k : b .reason ≡ 0) where
+      ended-at : ends (wanted - length after-header) (b .place) ≡ packetFrom g at (drop at ws)
+      ended-at = sym (else-on (b .place) k) ∙ packet-is
+
+      place-is : b .place ≡ at + 1 + m
+      place-is =
+          rw body-is (body-place g (suc at) (kindOf (getD ws at 0)) (take wanted after-header) (rw body-is at k)) ∙ counted-words
+        where
+          counted-words : suc at + length (take wanted after-header) ≡ at + 1 + m
+          counted-words =
+              elim (decLt wanted (length after-header)) [
+                | yes j ↦ omega (arith, long, length-take-le wanted after-header (omega arith))
+                | no j ↦ omega (arith, long, ap length (take-all wanted after-header (omega arith)))
+              ]
+
+      pub short-packet : m < n → answer endsInside (at + 1 + m) ≡ packetFrom g at (drop at ws)
+      short-packet j = ap (answer endsInside) (sym place-is) ∙ sym (inside (wanted - length after-header) (λ q. omega (arith, long))) ∙ ended-at
+        where
+          inside : (x : ℕ) → (x ≡ 0 → ⊥) → ends x (b .place) ≡ answer endsInside (b .place)
+          inside zero q = absurd (q refl)
+          inside (suc x) q = refl
+
+      pub whole-packet : n ≤ m → answer success (at + 1 + m) ≡ packetFrom g at (drop at ws)
+      whole-packet j =
+          let none : wanted - length after-header ≡ 0 = omega (arith, long) in
+          ap (answer success) (sym place-is) ∙ sym (ap (λ (x : ℕ). ends x (b .place)) none) ∙ ended-at
+
+-- ---- packet after packet
+
+module _ (g : Terms) (ws : List ℕ) (target : Answer) (i : ℕ) (inv : answerFrom g i Setting 0 (drop i ws) ≡ target) where
+  pub all-passed : length ws ≤ i → answer success i ≡ target
+  unfolding answerFrom
+  all-passed h = rw (drop-of-length-le ws h) at inv
+
+  module _ (l : i < length ws) {a : Answer} (e : a ≡ packetFrom g i (drop i ws)) where
+    abbrev h : ℕ
+    h = getD ws i 0
+
+    abbrev after-h : List ℕ
+    after-h = drop (i + 1) ws
+
+    long-h : length after-h ≡ length ws - (i + 1)
+    long-h = length-drop (i + 1) ws
+
+    a-is : a ≡ orElse (headerReason h) i (inFull (bodyFrom g (suc i) (kindOf h) (take (count h) after-h)) (count h - length after-h))
+    unfolding packetFrom
+    a-is = e ∙ ap (packetFrom g i) (rest ws i l)
+
+    target-is : orElse (headerReason h) i (afterBody (bodyFrom g (suc i) (kindOf h) (take (count h) after-h)) (tailOf g i h after-h)) ≡ target
+    target-is = sym (packet-tail g i Setting h after-h) ∙ sym (ap (answerFrom g i Setting 0) (rest ws i l)) ∙ inv
+
+    pub packet-stop : (a .reason ≡ 0 → ⊥) → a ≡ target
+    packet-stop n =
+        a-is ∙ sym (stops (headerReason h) i _ _ (tailOf g i h after-h) (λ x m. tail-short g i h after-h (not-zero m) ∙ ap (ends (count h - length after-h)) (sym (place-of x m))) (λ x. n (ap (λ (y : Answer). y .reason) a-is ∙ x))) ∙ target-is
+      where
+        not-zero : (count h - length after-h ≡ 0 → ⊥) → length after-h < count h
+        not-zero m = elim (decLt (length after-h) (count h)) [ yes k ↦ k | no k ↦ absurd (m (omega arith)) ]
+
+        place-of : bodyFrom g (suc i) (kindOf h) (take (count h) after-h) .reason ≡ 0 → (count h - length after-h ≡ 0 → ⊥)
+            → bodyFrom g (suc i) (kindOf h) (take (count h) after-h) .place ≡ suc i + length after-h
+        place-of z m =
+            body-place g (suc i) (kindOf h) (take (count h) after-h) z
+            ∙ ap (λ (x : List ℕ). suc i + length x) (take-all (count h) after-h (omega (arith, not-zero m)))
+
+    module _ (z : a .reason ≡ 0) where
+      abbrev body-h : Answer
+      body-h = bodyFrom g (suc i) (kindOf h) (take (count h) after-h)
+
+      told : (headerReason h ≡ 0) × (body-h .reason ≡ 0) × (count h - length after-h ≡ 0)
+      told = goes-on (headerReason h) i body-h (count h - length after-h) (tailOf g i h after-h) (sym (ap (λ (y : Answer). y .reason) a-is) ∙ z)
+
+      enough : count h ≤ length after-h
+      enough = omega (arith, told .2)
+
+      place-a : a .place ≡ suc i + count h
+      place-a =
+          ap (λ (y : Answer). y .place) (a-is ∙ else-on i (told .0) ∙ else-on (body-h .place) (told .1) ∙ ap (λ (x : ℕ). ends x (body-h .place)) (told .2))
+          ∙ body-place g (suc i) (kindOf h) (take (count h) after-h) (told .1)
+          ∙ ap (λ (x : ℕ). suc i + x) (length-take-le (count h) after-h enough)
+
+      pub packet-ahead : i < a .place
+      packet-ahead = omega (arith, place-a)
+
+      pub packet-inside : a .place ≤ length ws
+      packet-inside = omega (arith, place-a, enough, long-h)
+
+      pub packet-on : answerFrom g (a .place) Setting 0 (drop (a .place) ws) ≡ target
+      packet-on =
+          let next : i + 1 + count h ≡ suc i + count h = omega arith in
+          rw place-a (
+          ap (answerFrom g (suc i + count h) Setting 0) (ap (λ (x : ℕ). drop x ws) (sym next) ∙ sym (drop-drop (count h) (i + 1) ws))
+          ∙ sym (tail-whole g i h after-h enough) ∙ sym (else-on (body-h .place) (told .1)) ∙ sym (else-on i (told .0)) ∙ target-is)
+
+-- and that is the reader's answer
+pub answered : (g : Terms) (ws : List ℕ) → answerFrom g 0 Setting 0 ws ≡ batchAnswer g ws
+unfolding batchAnswer
+answered g ws = from-run g 0 Setting 0 ws ∙ ap (answer (run g Setting 0 ws .reason)) (omega arith)

@@ -1,22 +1,14 @@
 // The checking pass: what speaks against a batch, word by word from the front. It changes nothing.
 ghost use mathlib.Core.Path.{_≡_};
 ghost use Prim.Native.Nat.{_+_, _*_, _<_, _^_};
-ghost use lib.ListN.{length};
+ghost use lib.ListN.{length, drop};
 ghost use Rattle.meaning.specs.declared.Kind.the-variants as kinds;
 ghost use Rattle.grants.specs.Spans.{held};
-ghost use Rattle.positions.specs.Stretches.{Bounded};
-ghost use Rattle.checker.specs.Checks.{bodyFrom, refused, checkedFrom, closing};
+ghost use Rattle.meaning.specs.Positions.{kindOf};
+ghost use Rattle.meaning.specs.Reader.{batchAnswer};
+ghost use Rattle.checker.specs.Checks.{bodyFrom, packetFrom};
 use meaning::Answer;
-use meaning::Kind;
-use meaning::Position;
 use meaning::VideoOffset;
-
-// A reason, 0 where none is given; its place, or the place after the words; and the position there.
-pub struct Checked {
-    pub reason: u32,
-    pub place: usize,
-    pub at: Position,
-}
 
 // Parameters under one setting, the first at place `start`: type and sub-type stand still.
 fn check_parameters(
@@ -99,114 +91,84 @@ fn check_run(
 fn check_body(
     words: &[u32],
     start: usize,
-    kind: Kind,
+    header: u32,
     targets: &[u32],
     firsts: &[u32],
     seconds: &[u32],
 ) -> Answer
     requires fits { ⌜ start + length (now words) < 2 ^ 64 ⌝ }
-    requires bounded { ⌜ Bounded kind (length (now words)) ⌝ }
-    ensures answer { λ r. ⌜ r ≡ bodyFrom (held (now (targets .entry)) (now (firsts .entry)) (now (seconds .entry))) start kind (now (words .entry)) ⌝ }
+    requires few { ⌜ length (now words) < 2 ^ 16 ⌝ }
+    ensures answer { λ r. ⌜ r ≡ bodyFrom (held (now (targets .entry)) (now (firsts .entry)) (now (seconds .entry))) start (kindOf header) (now (words .entry)) ⌝ }
 {
-    match kind {
-        Kind::Setting => {
-            if words.len() == 0 {
-                return Answer {
-                    reason: 0,
-                    place: start,
-                };
-            }
-            if !registers::allowed(words[0]) {
-                return Answer {
-                    reason: 5,
-                    place: start,
-                };
-            }
-            check_parameters(&words[1..], start + 1, words[0], targets, firsts, seconds)
-        }
-        Kind::Parameter(setting) => check_parameters(
-            words,
-            start,
-            setting,
-            targets,
-            firsts,
-            seconds,
-        ),
-        Kind::Video(offset) => check_run(words, start, offset, targets, firsts, seconds),
+    let offset = fields::offset(header);
+    if offset != 0x043c {
+        return check_run(words, start, VideoOffset(offset), targets, firsts, seconds);
     }
+    if words.len() == 0 {
+        return Answer {
+            reason: 0,
+            place: start,
+        };
+    }
+    if !registers::allowed(words[0]) {
+        return Answer {
+            reason: 5,
+            place: start,
+        };
+    }
+    check_parameters(&words[1..], start + 1, words[0], targets, firsts, seconds)
 }
 
-// Nothing is open after a refusal.
-fn refuse(reason: u32, place: usize) -> Checked
-    ensures refused { λ r. ⌜ r ≡ refused reason place ⌝ }
-{
-    Checked {
-        reason,
-        place,
-        at: Position {
-            kind: Kind::Setting,
-            left: 0,
-        },
-    }
-}
-
-// Checks the words from a position on, packet by packet.
-pub fn check(
+// One packet, whose header stands at place `at`: 0 and the place after it, or what speaks against it; 10 where the words end inside it.
+fn check_packet(
     words: &[u32],
-    from: Position,
+    at: usize,
     targets: &[u32],
     firsts: &[u32],
     seconds: &[u32],
-) -> Checked
-    requires bounded { ⌜ Bounded (from .kind) (from .left) ⌝ }
-    ensures checked { λ r. ⌜ r ≡ checkedFrom (held (now (targets .entry)) (now (firsts .entry)) (now (seconds .entry))) 0 from (now (words .entry)) ⌝ }
+) -> Answer
+    requires header { ⌜ at < length (now words) ⌝ }
+    ensures answer { λ r. ⌜ r ≡ packetFrom (held (now (targets .entry)) (now (firsts .entry)) (now (seconds .entry))) at (drop at (now (words .entry))) ⌝ }
 {
-    let mut kind = from.kind;
-    let mut left = from.left;
-    let mut i = 0;
-    while i < words.len() {
-        if left == 0 {
-            let header = words[i];
-            let reason = verdicts::header_reason(header);
-            if reason != 0 {
-                return refuse(reason, i);
-            }
-            kind = positions::kind_of(header);
-            left = fields::count(header) as usize;
-            i += 1;
-        } else {
-            let n = numbers::lesser(left, words.len() - i);
-            let end = i + n;
-            let body = &words[i..end];
-            let a = check_body(body, i, kind, targets, firsts, seconds);
-            if a.reason != 0 {
-                return refuse(a.reason, a.place);
-            }
-            kind = positions::after_words(kind, body);
-            left -= n;
-            i = end;
-        }
+    let header = words[at];
+    let reason = verdicts::header_reason(header);
+    if reason != 0 {
+        return Answer { reason, place: at };
     }
-    Checked {
+    let from = at + 1;
+    let n = fields::count(header) as usize;
+    let m = numbers::lesser(n, words.len() - from);
+    let end = from + m;
+    let body = check_body(&words[from..end], from, header, targets, firsts, seconds);
+    if body.reason != 0 {
+        return body;
+    }
+    if m < n {
+        return Answer {
+            reason: 10,
+            place: end,
+        };
+    }
+    Answer {
         reason: 0,
-        place: i,
-        at: Position { kind, left },
+        place: end,
     }
 }
 
-// The answer to a whole batch: a reason that was given, or 10 if the words end inside a packet.
-pub fn closed(checked: Checked) -> Answer
-    ensures answer { λ r. ⌜ r ≡ closing checked ⌝ }
+// Checks a batch, packet by packet.
+pub fn check(words: &[u32], targets: &[u32], firsts: &[u32], seconds: &[u32]) -> Answer
+    ensures answer { λ r. ⌜ r ≡ batchAnswer (held (now (targets .entry)) (now (firsts .entry)) (now (seconds .entry))) (now (words .entry)) ⌝ }
 {
-    let place = checked.place;
-    if checked.reason != 0 {
-        return Answer {
-            reason: checked.reason,
-            place,
-        };
+    let mut i = 0;
+    while i < words.len() {
+        let packet = check_packet(words, i, targets, firsts, seconds);
+        if packet.reason != 0 {
+            return packet;
+        }
+        i = packet.place;
     }
-    if checked.at.left != 0 {
-        return Answer { reason: 10, place };
+    Answer {
+        reason: 0,
+        place: i,
     }
-    Answer { reason: 0, place }
 }

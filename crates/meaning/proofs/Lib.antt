@@ -11,6 +11,7 @@ pub mod Table
 pub mod Writing
 pub mod States
 pub mod Stored
+pub mod Stretches
 pub mod Round
 pub mod Exactly
 pub mod Memory

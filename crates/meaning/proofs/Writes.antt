@@ -37,7 +37,7 @@ in-body true h (s ∷ ps) = in-parameters s ps
 in-body false h t = in-run (videoOffset h) t
 
 -- between packets the kind does not matter
-between : (k m : Kind) (ws : List ℕ) → writesFrom k zero ws ≡ writesFrom m zero ws
+pub between : (k m : Kind) (ws : List ℕ) → writesFrom k zero ws ≡ writesFrom m zero ws
 unfolding writesFrom writeAt nextKind nextLeft
 between k m [] = refl
 between k m (w ∷ ws) = refl

@@ -31,18 +31,16 @@ use Rattle.states.proofs.well_formed.Reads as well-formed
 use Rattle.states.proofs.marked_between.Reads as marked-between
 use Rattle.grants.proofs.grants_fine.Reads as grants-fine
 use Rattle.grants.proofs.covered.Reads as covered
-use Rattle.positions.proofs.kind_of.Reads as kind-of
-use Rattle.positions.proofs.after_words.Reads as after-words
 use Rattle.verdicts.proofs.parameter_reason.Reads as parameter-reason
 use Rattle.verdicts.proofs.video_reason.Reads as video-reason
 use Rattle.verdicts.proofs.header_reason.Reads as header-reason
 use Rattle.checker.proofs.check.Reads as check
-use Rattle.checker.proofs.closed.Reads as closed
 use Rattle.grants.proofs.keep.Reads as keep
 use Rattle.words.proofs.words_from.Reads as words-from
 use Rattle.words.proofs.bytes_from.Reads as bytes-from
-use Rattle.applier.proofs.apply.Reads as apply
 use Rattle.reader.proofs.read.Reads as read
+use Rattle.lister.proofs.list.Reads as list
+use Rattle.applier.proofs.apply.Reads as apply
 
 -- what is equal to one thing is equal
 one-answer {ℓ} : {A : Type ℓ} {x y z : A} → x ≡ z → y ≡ z → x ≡ y
@@ -148,14 +146,6 @@ grants-fine-one κs a r r' s s' p q = one-answer p q
 pub covered-one : Determined covered.Learnt
 covered-one κs a r r' s s' p q = one-answer p q
 
--- ---- positions
-
-pub kind-of-one : Determined kind-of.Learnt
-kind-of-one κs a r r' s s' p q = one-answer p q
-
-pub after-words-one : Determined after-words.Learnt
-after-words-one κs a r r' s s' p q = one-answer p q
-
 -- ---- verdicts
 
 pub parameter-reason-one : Determined parameter-reason.Learnt
@@ -172,9 +162,6 @@ header-reason-one κs a r r' s s' p q = one-answer p q
 pub check-one : Determined check.Learnt
 check-one κs a r r' s s' p q = one-answer p q
 
-pub closed-one : Determined closed.Learnt
-closed-one κs a r r' s s' p q = one-answer p q
-
 -- ---- functions that change a lent buffer: the answer and the buffer
 
 pub keep-one : (κs : _) (a : _) (r r' : _) (s s' : _) → keep.Learnt κs a r s → keep.Learnt κs a r' s' → (r ≡ r') × (now (s .1 .0) ≡ now (s' .1 .0))
@@ -186,8 +173,11 @@ words-from-one κs a r r' s s' p q = (one-answer (p .0) (q .0), one-answer (p .1
 pub bytes-from-one : (κs : _) (a : _) (r r' : _) (s s' : _) → bytes-from.Learnt κs a r s → bytes-from.Learnt κs a r' s' → (r ≡ r') × (now (s .1 .0) ≡ now (s' .1 .0))
 bytes-from-one κs a r r' s s' p q = (one-answer (p .0) (q .0), one-answer (p .1) (q .1))
 
-pub apply-one : (κs : _) (a : _) (r r' : _) (s s' : _) → apply.Learnt κs a r s → apply.Learnt κs a r' s' → (r ≡ r') × (now (s .1 .1 .0) ≡ now (s' .1 .1 .0))
-apply-one κs a r r' s s' p q = (one-answer (p .0) (q .0), one-answer (p .1) (q .1))
-
 pub read-one : (κs : _) (a : _) (r r' : _) (s s' : _) → read.Learnt κs a r s → read.Learnt κs a r' s' → (r ≡ r') × (now (s .1 .1 .0) ≡ now (s' .1 .1 .0))
 read-one κs a r r' s s' p q = (one-answer (p .0) (q .0), one-answer (p .1) (q .1))
+
+pub list-one : (κs : _) (a : _) (r r' : _) (s s' : _) → list.Learnt κs a r s → list.Learnt κs a r' s' → (r ≡ r') × (now (s .1 .0) ≡ now (s' .1 .0))
+list-one κs a r r' s s' p q = (one-answer (p .0) (q .0), one-answer (p .1) (q .1))
+
+pub apply-one : (κs : _) (a : _) (r r' : _) (s s' : _) → apply.Learnt κs a r s → apply.Learnt κs a r' s' → now (s .1 .0) ≡ now (s' .1 .0)
+apply-one κs a r r' s s' p q = one-answer p q

@@ -21,6 +21,7 @@ use Rattle.meaning.specs.Reasons.{CellFine, Reads, Writes, Lists}
 use Rattle.meaning.specs.Memory.{Inside, Apart, Safe, Stores}
 use Rattle.meaning.proofs.Promises as theory
 use Rattle.reader.proofs.read.Reads as read
+use Rattle.lister.proofs.list.Reads as list
 use Rattle.promises.specs.Contracts.{Reading, Writing, Listing}
 
 -- ==== The contracts
@@ -28,6 +29,10 @@ use Rattle.promises.specs.Contracts.{Reading, Writing, Listing}
 -- what `reader::read` is proved to do, for any buffers that are lent to it
 pub reads : (κs : _) (a : _) (r : _) (s : _) → read.Learnt κs a r s → Reading (now (a .0)) (now (a .1 .0)) (now (a .1 .1 .0)) r (now (s .1 .1 .0))
 reads κs a r s p = p
+
+-- and `lister::list`
+pub lists : (κs : _) (a : _) (r : _) (s : _) → list.Learnt κs a r s → Listing (now (a .0)) (now (a .1 .0)) r (now (s .1 .0))
+lists κs a r s p = p
 
 -- ==== Demand 3
 

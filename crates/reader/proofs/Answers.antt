@@ -9,12 +9,10 @@ use lib.Dec.{eqb}
 use lib.ListN.{length}
 use mir.Facts.{and-yes, eqb-yes}
 use Rattle.laws.proofs.Tests.{holds-of}
-use Rattle.meaning.specs.declared.Kind.the-variants.{Setting}
-use Rattle.meaning.specs.declared.Position.{Position}
 use Rattle.meaning.specs.declared.Answer.{Answer}
 use Rattle.meaning.specs.Grants.{grantsFine, termsOf}
 use Rattle.meaning.specs.State.{stateWords, wellFormed, applyAll}
-use Rattle.meaning.specs.Positions.{writesFrom, writesOf}
+use Rattle.meaning.specs.Positions.{writesOf}
 use Rattle.meaning.specs.Answers.{badState, badGrants, answer}
 use Rattle.meaning.specs.Reader.{batchAnswer, readAnswer, readLeaves}
 
@@ -37,7 +35,6 @@ module _ (batch grants st : List ℕ) where
     unfolding readAnswer readLeaves
     batch-refused n = rw (e, f, sym h, ne-eqb (a .reason) 0 n) (refl, refl)
 
-    pub batch-accepted : a .reason ≡ 0 → {p : Position} → p ≡ record { kind = Setting; left = 0 } → {left : List ℕ}
-        → left ≡ applyAll st (writesFrom (p .kind) (p .left) batch) → (a ≡ readAnswer batch grants st) × (left ≡ readLeaves batch grants st)
-    unfolding readAnswer readLeaves writesOf
-    batch-accepted z q l = let applied = rw q at l in rw (e, f, sym h, z) (refl, applied)
+    pub batch-accepted : a .reason ≡ 0 → {left : List ℕ} → left ≡ applyAll st (writesOf batch) → (a ≡ readAnswer batch grants st) × (left ≡ readLeaves batch grants st)
+    unfolding readAnswer readLeaves
+    batch-accepted z l = rw (e, f, sym h, z) (refl, l)

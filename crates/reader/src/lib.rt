@@ -4,18 +4,6 @@ ghost use lib.Dec.{T};
 ghost use Rattle.meaning.specs.Grants.{grantsFine, termsOf};
 ghost use Rattle.meaning.specs.Reader.{batchAnswer, readAnswer, readLeaves};
 use meaning::Answer;
-use meaning::Kind;
-use meaning::Position;
-
-// A batch begins with a header.
-fn start() -> Position
-    ensures start { λ r. ⌜ r ≡ record { kind = Kind.Setting; left = 0 } ⌝ }
-{
-    Position {
-        kind: Kind::Setting,
-        left: 0,
-    }
-}
 
 // 3 to 10: the grants are looked at once, and kept by role while the words are checked.
 fn check_batch(batch: &[u32], grants: &[u32]) -> Answer
@@ -28,8 +16,7 @@ fn check_batch(batch: &[u32], grants: &[u32]) -> Answer
     let f = kept.firsts;
     let s = kept.seconds;
     let all = &spans[..];
-    let checked = checker::check(batch, start(), &all[..t], &all[t..f], &all[f..s]);
-    checker::closed(checked)
+    checker::check(batch, &all[..t], &all[t..f], &all[f..s])
 }
 
 // Reads a batch: 1 if the state is not well-formed, 2 if the grant list breaks its rules, then what the first bad word gives, or 10;
@@ -52,7 +39,7 @@ pub fn read(batch: &[u32], grants: &[u32], state: &mut [u32]) -> Answer
     }
     let answer = check_batch(batch, grants);
     if answer.reason == 0 {
-        applier::apply(batch, start(), state);
+        applier::apply(batch, state);
     }
     answer
 }
