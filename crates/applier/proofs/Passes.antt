@@ -3,7 +3,7 @@
 use mathlib.Core.Path.{_≡_, refl, sym, ap, _∙_}
 use mathlib.Core.Logic.{_⊎_, inl, inr}
 use mathlib.Core.List.{List, [], _∷_, _++_}
-use Prim.Native.Nat.{ℕ, zero, suc, _+_, _*_, _-_, _≤_, _<_, min}
+use Prim.Native.Nat.{ℕ, suc, _+_, _*_, _-_, _≤_, _<_, min}
 use native.Mathlib.Omega.{arith}
 use native.Mathlib.Decide.{decLt}
 use lib.ListN.{length, getD, take, drop, length-drop, drop-of-length-le}
@@ -15,8 +15,8 @@ use Rattle.meaning.specs.declared.VideoOffset.{VideoOffset}
 use Rattle.meaning.specs.declared.Found.{Found}
 use Rattle.meaning.specs.declared.Found.the-variants.{At, Missing}
 use Rattle.meaning.specs.declared.Kind.{Kind}
-use Rattle.meaning.specs.declared.Kind.the-variants.{Setting, Parameter, Video}
-use Rattle.meaning.specs.Words.{count, following, paraType, paraSubType, subAddress, data24}
+use Rattle.meaning.specs.declared.Kind.the-variants.{Setting, Video}
+use Rattle.meaning.specs.Words.{count, paraType, paraSubType, subAddress, data24}
 use Rattle.meaning.specs.Registers.{cells, find3D, findVideo}
 use Rattle.meaning.specs.Batch.{named}
 use Rattle.meaning.specs.State.{Write, apply, applyAll, writeTo, writes3D, writesRun}

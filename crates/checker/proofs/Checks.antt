@@ -14,7 +14,7 @@ use Rattle.meaning.specs.declared.VideoOffset.{VideoOffset}
 use Rattle.meaning.specs.declared.Kind.{Kind}
 use Rattle.meaning.specs.declared.Kind.the-variants.{Setting, Parameter, Video}
 use Rattle.meaning.specs.declared.Answer.{Answer}
-use Rattle.meaning.specs.Words.{count, following, paraType, paraSubType, subAddress, data24}
+use Rattle.meaning.specs.Words.{count, paraType, paraSubType, subAddress, data24}
 use Rattle.meaning.specs.Registers.{find3D, findVideo}
 use Rattle.meaning.specs.Grants.{Terms}
 use Rattle.meaning.specs.Batch.{allowed}

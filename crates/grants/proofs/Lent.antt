@@ -1,6 +1,6 @@
 -- What a caller of `keep` knows of the spans that it then lends: where they lie, and that they grant what the list grants.
 -- Assumes nothing.
-use mathlib.Core.Path.{_≡_, refl, sym, ap, _∙_}
+use mathlib.Core.Path.{_≡_, sym, ap, _∙_}
 use mathlib.Core.List.{List}
 use Prim.Native.Nat.{ℕ, _-_, _≤_}
 use native.Mathlib.Omega.{arith}
@@ -8,12 +8,12 @@ use lib.Dec.{T}
 use lib.ListN.{length, take, drop, replicate}
 use lib.Seq.{length-take-le}
 use Rattle.laws.specs.Lists.{over}
-use Rattle.meaning.specs.Grants.{Terms, grantsOf, grantsFine, termsOf}
+use Rattle.meaning.specs.Grants.{grantsOf, grantsFine, termsOf}
 use Rattle.meaning.proofs.Same.{Same}
 use Rattle.grants.specs.declared.Kept.{Kept}
-use Rattle.grants.specs.Spans.{spansOf, keptWords, keptEnds, held}
+use Rattle.grants.specs.Spans.{keptWords, keptEnds, held}
 use Rattle.grants.proofs.Spans.{fine-few, held-same, kept-room, seconds-length, targets-before, firsts-before, kept-targets, kept-firsts, kept-seconds}
-use Rattle.grants.proofs.Stores.{length-over}
+use Rattle.laws.proofs.Stores.{length-over}
 
 -- the room that is lent to `keep`
 abbrev room : List ℕ

@@ -1,4 +1,3 @@
 pub mod Grants
 pub mod Lent
 pub mod Spans
-pub mod Stores

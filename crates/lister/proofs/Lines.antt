@@ -1,7 +1,7 @@
 -- The lines of marked cells: how many, how long, and a loop that stores them one behind the other.
 -- Assumes nothing.
 use mathlib.Core.Path.{_≡_, refl, sym, ap, _∙_}
-use mathlib.Core.List.{List, [], _∷_, _++_}
+use mathlib.Core.List.{List, _∷_, _++_}
 use Prim.Native.Nat.{ℕ, zero, suc, _+_, _*_, _-_, _≤_, _<_}
 use native.Mathlib.Omega.{arith}
 use native.Mathlib.Nat.{zero-add, add-zero, suc-add, add-suc, mul-zero, mul-add, mul-one}
@@ -15,7 +15,7 @@ use Rattle.meaning.specs.Writer.{ifMarked}
 use Rattle.states.specs.Marks.{oneIfMarked, markedIn}
 use Rattle.states.proofs.Counted.{marked-next, one-marked}
 use Rattle.lister.specs.Lines.{linesFrom}
-use Rattle.lister.proofs.Stores.{sets-behind}
+use Rattle.laws.proofs.Stores.{sets-behind}
 
 -- ---- lists with `ifMarked`
 

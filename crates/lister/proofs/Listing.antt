@@ -19,7 +19,8 @@ use Rattle.meaning.specs.Lister.{hex, decimal, cellLines, listing, listAnswer, 
 use Rattle.meaning.proofs.States.{formed-iff}
 use Rattle.states.specs.Marks.{markedIn}
 use Rattle.lister.specs.Lines.{cellLine3D, cellLineVideo, linesFrom, headLine}
-use Rattle.lister.proofs.Stores.{behind, sets-over}
+use Rattle.laws.proofs.Stores.{sets-over}
+use Rattle.lister.proofs.Stores.{behind}
 use Rattle.lister.proofs.Lines.{lines-count, lines-length}
 use Rattle.lister.proofs.Rows.{in-cell-order}
 

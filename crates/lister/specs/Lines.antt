@@ -1,6 +1,6 @@
 -- The listing in cell order, piece by piece as the lister stores it. proofs/Listing ties it to the listing.
 -- Assumes nothing.
-use mathlib.Core.List.{List, [], _∷_, _++_, map}
+use mathlib.Core.List.{List, [], _++_, map}
 use Prim.Native.Nat.{ℕ, zero, suc}
 use Rattle.laws.specs.Lists.{join, from}
 use Rattle.meaning.specs.declared.Cell.{Cell}

@@ -12,7 +12,6 @@ use Rattle.meaning.specs.declared.Found.{Found}
 use Rattle.meaning.specs.declared.Found.the-variants.{At, Missing}
 use Rattle.meaning.specs.declared.Kind.{Kind}
 use Rattle.meaning.specs.declared.Kind.the-variants.{Setting, Parameter, Video}
-use Rattle.meaning.specs.declared.Answer.{Answer}
 use Rattle.meaning.specs.Words.{data24}
 use Rattle.meaning.specs.Registers.{cell, Held, nothing, address, Register, findVideo, registerAt}
 use Rattle.meaning.specs.Grants.{Terms, granted}

@@ -6,10 +6,11 @@ use Prim.Native.Nat.{ℕ, _+_, _*_, _≤_, _<_, min}
 use native.Mathlib.Omega.{arith}
 use native.Mathlib.Decide.{decLe}
 use native.Mathlib.Numerals.{add-one}
-use native.Mathlib.Nat.{zero-add, min-eq-left, min-eq-right}
+use native.Mathlib.Nat.{min-eq-left, min-eq-right}
 use lib.ListN.{length, take, getD, set}
-use lib.Seq.{sets, sets-eq, take-all, slice, slice-empty, slice-cons}
+use lib.Seq.{sets, take-all, slice, slice-empty, slice-cons}
 use Rattle.laws.specs.Lists.{over}
+use Rattle.laws.proofs.Stores.{sets-over}
 use Rattle.meaning.specs.Words.{bytesOf}
 use Rattle.words.proofs.Words.{four-on}
 
@@ -27,10 +28,6 @@ module _ (s d done : List ℕ) (n i : ℕ) (l : i < n) (h : n ≤ length s) wher
       rw (add-one i, four-on i) (sym (ap (λ (x : List ℕ). sets d (i * 4) (bytesOf x)) (slice-cons i n s 0 l h)) ∙ inv)
 
 -- ---- the end
-
--- stores from the first place on lie over the front
-pub sets-over : (vs l : List ℕ) → length vs ≤ length l → sets l 0 vs ≡ over vs l
-sets-over vs l h = sets-eq vs l 0 (omega arith) ∙ rw (zero-add (length vs))
 
 -- a copy of the smaller number of elements is one of all that fit
 all-that-fit : (room n : ℕ) (s : List ℕ) → n ≡ min room (length s) → take n s ≡ take room s

@@ -9,9 +9,8 @@ use lib.Seq.{sets}
 use Rattle.laws.specs.Lists.{over}
 use Rattle.meaning.specs.Grants.{Grant, grantsOf}
 use Rattle.grants.specs.Spans.{spansOf, keptWords, keptEnds}
-use Rattle.grants.specs.declared.Kept.{Kept}
 use Rattle.grants.proofs.Spans.{kept-room, seconds-length}
-use Rattle.grants.proofs.Stores.{sets-three, sets-over}
+use Rattle.laws.proofs.Stores.{sets-three, sets-over}
 use Rattle.grants.proofs.keep.Statement.{statement}
 use Rattle.grants.proofs.keep.Tie as tie
 

@@ -1,19 +1,20 @@
 -- Runs of stores: one after another, and over the front of a list.
 -- Assumes nothing.
-use mathlib.Core.Path.{_≡_, refl, sym, ap, _∙_}
+use mathlib.Core.Path.{_≡_, refl, ap, _∙_}
 use mathlib.Core.List.{List, [], _∷_, _++_, append-assoc}
 use Prim.Native.Nat.{ℕ, suc, _+_, _≤_}
 use native.Mathlib.Omega.{arith}
 use lib.ListN.{length, drop, set, length-append, length-drop}
 use lib.Seq.{sets, sets-eq}
 use Rattle.laws.specs.Lists.{over}
 
 -- a second run that starts where the first ends makes one run with it
+pub sets-behind {ℓ} : {A : Type ℓ} (l : List A) (i j : ℕ) (u v : List A) → j ≡ i + length u → sets (sets l i u) j v ≡ sets l i (u ++ v)
+sets-behind l i j [] v e = let same : j ≡ i = omega arith in rw same
+sets-behind l i j (a ∷ u) v e = sets-behind (set l i a) (suc i) j u v (omega arith)
+
 pub sets-append {ℓ} : {A : Type ℓ} (l : List A) (i : ℕ) (u v : List A) → sets (sets l i u) (i + length u) v ≡ sets l i (u ++ v)
-sets-append l i [] v = let e : i + 0 ≡ i = omega arith in rw e
-sets-append l i (a ∷ u) v =
-    let e : i + suc (length u) ≡ suc i + length u = omega arith in
-    rw e (sets-append (set l i a) (suc i) u v)
+sets-append l i u v = sets-behind l i (i + length u) u v refl
 
 -- three runs, each from where the one before it ended
 pub sets-three {ℓ} : {A : Type ℓ} (l : List A) (i : ℕ) (u v w : List A)
