@@ -35,11 +35,14 @@ use Rattle.verdicts.proofs.parameter_reason.Reads as parameter-reason
 use Rattle.verdicts.proofs.video_reason.Reads as video-reason
 use Rattle.verdicts.proofs.header_reason.Reads as header-reason
 use Rattle.checker.proofs.check.Reads as check
+use Rattle.emitter.proofs.needed.Reads as needed
 use Rattle.grants.proofs.keep.Reads as keep
 use Rattle.words.proofs.words_from.Reads as words-from
 use Rattle.words.proofs.bytes_from.Reads as bytes-from
 use Rattle.reader.proofs.read.Reads as read
+use Rattle.writer.proofs.write.Reads as write
 use Rattle.lister.proofs.list.Reads as list
+use Rattle.emitter.proofs.emit.Reads as emit
 use Rattle.applier.proofs.apply.Reads as apply
 
 -- what is equal to one thing is equal
@@ -162,6 +165,11 @@ header-reason-one κs a r r' s s' p q = one-answer p q
 pub check-one : Determined check.Learnt
 check-one κs a r r' s s' p q = one-answer p q
 
+-- ---- emitter
+
+pub needed-one : Determined needed.Learnt
+needed-one κs a r r' s s' p q = one-answer p q
+
 -- ---- functions that change a lent buffer: the answer and the buffer
 
 pub keep-one : (κs : _) (a : _) (r r' : _) (s s' : _) → keep.Learnt κs a r s → keep.Learnt κs a r' s' → (r ≡ r') × (now (s .1 .0) ≡ now (s' .1 .0))
@@ -176,8 +184,14 @@ bytes-from-one κs a r r' s s' p q = (one-answer (p .0) (q .0), one-answer (p .1
 pub read-one : (κs : _) (a : _) (r r' : _) (s s' : _) → read.Learnt κs a r s → read.Learnt κs a r' s' → (r ≡ r') × (now (s .1 .1 .0) ≡ now (s' .1 .1 .0))
 read-one κs a r r' s s' p q = (one-answer (p .0) (q .0), one-answer (p .1) (q .1))
 
+pub write-one : (κs : _) (a : _) (r r' : _) (s s' : _) → write.Learnt κs a r s → write.Learnt κs a r' s' → (r ≡ r') × (now (s .1 .1 .0) ≡ now (s' .1 .1 .0))
+write-one κs a r r' s s' p q = (one-answer (p .0) (q .0), one-answer (p .1) (q .1))
+
 pub list-one : (κs : _) (a : _) (r r' : _) (s s' : _) → list.Learnt κs a r s → list.Learnt κs a r' s' → (r ≡ r') × (now (s .1 .0) ≡ now (s' .1 .0))
 list-one κs a r r' s s' p q = (one-answer (p .0) (q .0), one-answer (p .1) (q .1))
+
+pub emit-one : (κs : _) (a : _) (r r' : _) (s s' : _) → emit.Learnt κs a r s → emit.Learnt κs a r' s' → now (s .1 .0) ≡ now (s' .1 .0)
+emit-one κs a r r' s s' p q = one-answer p q
 
 pub apply-one : (κs : _) (a : _) (r r' : _) (s s' : _) → apply.Learnt κs a r s → apply.Learnt κs a r' s' → now (s .1 .0) ≡ now (s' .1 .0)
 apply-one κs a r r' s s' p q = one-answer p q

@@ -1,0 +1,4 @@
+pub mod Named
+pub mod Writable
+pub mod Lowest
+pub mod Answers
