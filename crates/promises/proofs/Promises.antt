@@ -21,6 +21,7 @@ use Rattle.meaning.specs.Reasons.{CellFine, Reads, Writes, Lists}
 use Rattle.meaning.specs.Memory.{Inside, Apart, Safe, Stores}
 use Rattle.meaning.proofs.Promises as theory
 use Rattle.reader.proofs.read.Reads as read
+use Rattle.writer.proofs.write.Reads as write
 use Rattle.lister.proofs.list.Reads as list
 use Rattle.promises.specs.Contracts.{Reading, Writing, Listing}
 
@@ -29,6 +30,10 @@ use Rattle.promises.specs.Contracts.{Reading, Writing, Listing}
 -- what `reader::read` is proved to do, for any buffers that are lent to it
 pub reads : (κs : _) (a : _) (r : _) (s : _) → read.Learnt κs a r s → Reading (now (a .0)) (now (a .1 .0)) (now (a .1 .1 .0)) r (now (s .1 .1 .0))
 reads κs a r s p = p
+
+-- `writer::write`
+pub writes : (κs : _) (a : _) (r : _) (s : _) → write.Learnt κs a r s → Writing (now (a .0)) (now (a .1 .0)) (now (a .1 .1 .0)) r (now (s .1 .1 .0))
+writes κs a r s p = p
 
 -- and `lister::list`
 pub lists : (κs : _) (a : _) (r : _) (s : _) → list.Learnt κs a r s → Listing (now (a .0)) (now (a .1 .0)) r (now (s .1 .0))
@@ -67,10 +72,11 @@ module _ (batch grants st : List ℕ) (a : Answer) (left : List ℕ) (read : Rea
       → All (λ w. (i ≢ w .cell .0) × (i ≢ cells + w .cell .0)) (allWrites (c .packets)) → getD left i 0 ≡ getD st i 0
   else-as-before e = rw (read .1) (theory.else-as-before batch grants st (rw (read .0) at e))
 
+  -- a state that is well-formed stays so, accepted or refused
   pub stays-well-formed : T (wellFormed st) → T (wellFormed left)
   stays-well-formed s = rw (read .1) (theory.stays-well-formed batch grants st s)
 
-  -- "state and output buffers stay as they were"
+  -- "state .. stay as they were"
   pub refused-unread : a .reason ≢ 0 → left ≡ st
   refused-unread n = read .1 ∙ theory.refusal-changes-nothing batch grants st .read (rw (read .0) at n)
 
@@ -119,9 +125,11 @@ module _ (st grants out : List ℕ) (a : Answer) (left : List ℕ) (write : Writ
   pub writer-needs-its-room : T (grantsFine grants) → Reached (termsOf grants) st → (a ≡ answer 11 0) ↔ (length out < length (written st))
   writer-needs-its-room l r = rw (write .0) (theory.writer-needs-its-room st grants (length out) l r)
 
+  -- "Each is given exactly then": of the writer
   pub each-writer-reason-exactly : (r p : ℕ) → (a ≡ answer r p) ↔ Writes st grants (length out) r p
   each-writer-reason-exactly r p = rw (write .0) (theory.each-reason-exactly st grants out (length out) .writer r p)
 
+  -- "output buffers stay as they were"
   pub refused-unwritten : a .reason ≢ 0 → left ≡ out
   refused-unwritten n = write .1 ∙ theory.refusal-changes-nothing st grants out .write (rw (write .0) at n)
 
@@ -136,9 +144,11 @@ module _ (st out : List ℕ) (a : Answer) (left : List ℕ) (list : Listing st o
   pub listing-is-exact : T (wellFormed st) → length (listing st) ≤ length out → (a ≡ answer 0 (length (listing st))) × (left ≡ listing st ++ drop (length (listing st)) out)
   listing-is-exact s room = let t = theory.listing-is-exact st out s room in (list .0 ∙ t .answered, list .1 ∙ t .left)
 
+  -- "Each is given exactly then": of the lister
   pub each-lister-reason-exactly : (r p : ℕ) → (a ≡ answer r p) ↔ Lists st (length out) r p
   each-lister-reason-exactly r p = rw (list .0) (theory.each-reason-exactly st out out (length out) .lister r p)
 
+  -- "output buffers stay as they were"
   pub refused-unlisted : a .reason ≢ 0 → left ≡ out
   refused-unlisted n = list .1 ∙ theory.refusal-changes-nothing st st out .list (rw (list .0) at n)
 
