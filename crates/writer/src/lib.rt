@@ -266,8 +266,9 @@ pub fn write(state: &[u32], grants: &[u32], out: &mut [u32]) -> Answer
             place: 0,
         };
     }
+    let lowest = lowest_under(state, grants);
     let need = emitter::needed(state);
-    let cells = cell_answer(lowest_under(state, grants), need);
+    let cells = cell_answer(lowest, need);
     let room = room_answer(need, out.len());
     let answer = earlier(cells, room);
     if answer.reason != 0 {

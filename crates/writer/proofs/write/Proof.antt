@@ -40,11 +40,11 @@ returns-2 c =
 fine : (c : tie.Else2) → grantsFine (c .before .before .before .before .before .before .before .args .grants .now) ≡ true
 fine c = told-true (c .before .grants-fine .ensures) (c .if2 .left)
 
-needed-requires : tie.Need-needed-requires
-needed-requires c κs = formed-whole (c .before .before)
-
 lowest-under-requires : tie.Need-lowest-under-requires
-lowest-under-requires c κs = let e = c .before in (formed-whole (e .before .before), holds-of (fine e))
+lowest-under-requires c κs = (formed-whole (c .before .before), holds-of (fine c))
+
+needed-requires : tie.Need-needed-requires
+needed-requires c κs = formed-whole (c .before .before .before)
 
 cell-answer-requires : tie.Need-cell-answer-requires
 cell-answer-requires c κs = search needs
@@ -61,9 +61,9 @@ judged : (c : tie.After-earlier) → let a = c .before .before .before .before .
 judged c =
     let r = c .before in
     let k = r .before in
-    let f = k .before in
-    let n = f .before in
-    let e = n .before in
+    let n = k .before in
+    let f = n .before in
+    let e = f .before in
     let a = e .before .before .before .before .before .before .before .args in
     told (a .state .now) (a .grants .now) (a .out .now) (formed (e .before .before)) (fine e)
     (f .lowest-under .ensures) (n .needed .ensures) (k .cell-answer .ensures) (r .room-answer .ensures) (c .earlier .ensures)
@@ -91,8 +91,8 @@ write-spec =
     returns
     grants-fine-requires
     returns-2
-    needed-requires
     lowest-under-requires
+    needed-requires
     cell-answer-requires
     room-answer-requires
     earlier-requires
