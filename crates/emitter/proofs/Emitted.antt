@@ -1,11 +1,12 @@
 -- The words as they are emitted are the words that document 01 has the writer emit.
 -- Assumes nothing.
-use mathlib.Core.Path.{_≡_, refl, sym, ap, ap₂, _∙_}
-use mathlib.Core.List.{List, [], _∷_, _++_, map, append-assoc}
+use mathlib.Core.Path.{_≡_, refl, ap, ap₂, _∙_}
+use mathlib.Core.List.{List, [], _∷_, _++_, map}
 use Prim.Native.Nat.{ℕ, zero, suc, _+_, _≤_}
 use native.Mathlib.Omega.{arith}
 use lib.ListN.{length, length-append}
 use Rattle.laws.specs.Lists.{join, from}
+use Rattle.laws.proofs.Lists.{join-append}
 use Rattle.meaning.specs.declared.SubAddress.{SubAddress}
 use Rattle.meaning.specs.declared.VideoOffset.{VideoOffset}
 use Rattle.meaning.specs.Registers.{Row, Group, targetGroup, groups, scaler, videoRows}
@@ -21,10 +22,6 @@ use Rattle.emitter.specs.Emitted.{inRow, parameterOf, parametersOf, pack
 marked-first {ℓ} : {A : Type ℓ} (m : ℕ) (x : A) (xs : List A) → ifMarked m x xs ≡ ifMarked m x [] ++ xs
 marked-first zero x xs = refl
 marked-first (suc m) x xs = refl
-
-join-append {ℓ} : {A : Type ℓ} (ls ms : List (List A)) → join (ls ++ ms) ≡ join ls ++ join ms
-join-append [] ms = refl
-join-append (l ∷ ls) ms = ap (λ x. l ++ x) (join-append ls ms) ∙ sym (append-assoc l (join ls) (join ms))
 
 -- a row of numbers, mapped and joined
 row-join : (f : ℕ → List ℕ) (i n : ℕ) → join (map f (from i n)) ≡ inRow f i n

@@ -3,7 +3,7 @@
 use mathlib.Core.Path.{_≡_, refl, sym, ap, subst, _∙_}
 use mathlib.Core.Logic.{_↔_, inl, inr}
 use mathlib.Core.Bool.{Bool}
-use mathlib.Core.List.{List, [], _∷_, _++_, List·Memᴰ, List·Memᴰ·head, List·Memᴰ·tail, List·Memᴰ·not-nil, List·Memᴰ·cases-cons}
+use mathlib.Core.List.{List, [], _∷_, _++_, append-assoc, List·Memᴰ, List·Memᴰ·head, List·Memᴰ·tail, List·Memᴰ·not-nil, List·Memᴰ·cases-cons}
 use Prim.Native.Nat.{ℕ, zero, suc, _+_, _≤_, _<_}
 use native.Mathlib.Omega.{arith}
 use native.Mathlib.Decide.{ℕ-discrete}
@@ -68,11 +68,14 @@ same-front a b x y n e = (
   sym (drop-at a x (length b) n) ∙ ap (drop (length b)) e ∙ drop-at b y (length b) refl,
 )
 
--- ---- lengths
+-- ---- lists joined
+
+pub join-append {ℓ} : {A : Type ℓ} (ls ms : List (List A)) → join (ls ++ ms) ≡ join ls ++ join ms
+join-append [] ms = refl
+join-append (l ∷ ls) ms = ap (λ (x : List _). l ++ x) (join-append ls ms) ∙ sym (append-assoc l (join ls) (join ms))
 
 pub length-join-append {ℓ} : {A : Type ℓ} (ls ms : List (List A)) → length (join (ls ++ ms)) ≡ length (join ls) + length (join ms)
-length-join-append [] ms = omega arith
-length-join-append (l ∷ ls) ms = length-append l (join (ls ++ ms)) ∙ omega (arith, length-join-append ls ms, length-append l (join ls))
+length-join-append ls ms = ap length (join-append ls ms) ∙ length-append (join ls) (join ms)
 
 -- ---- some element
 

@@ -2,13 +2,14 @@
 -- Assumes nothing.
 use mathlib.Core.Path.{_≡_, refl, sym, ap, ap₂, _∙_}
 use mathlib.Core.Bool.{Bool, true, false, not}
-use mathlib.Core.List.{List, [], _∷_, _++_, append-assoc}
+use mathlib.Core.List.{List, _++_, append-assoc}
 use Prim.Native.Nat.{ℕ, _+_, _*_, _≤_, _<_}
 use native.Mathlib.Omega.{arith}
 use borrow.Author.Tests.{lt-leb, le-leb}
 use lib.ListN.{length, length-append}
 use lib.Seq.{sets}
 use Rattle.laws.specs.Lists.{join, over}
+use Rattle.laws.proofs.Lists.{join-append}
 use Rattle.laws.proofs.Tests.{holds-of}
 use Rattle.laws.proofs.Arms.{told-true}
 use Rattle.meaning.specs.declared.Cell.{Cell}
@@ -25,10 +26,6 @@ use Rattle.lister.proofs.Lines.{lines-count, lines-length}
 use Rattle.lister.proofs.Rows.{in-cell-order}
 
 -- ---- its parts
-
-join-append {ℓ} : {A : Type ℓ} (ls ms : List (List A)) → join (ls ++ ms) ≡ join ls ++ join ms
-join-append [] ms = refl
-join-append (l ∷ ls) ms = ap (λ (x : List _). l ++ x) (join-append ls ms) ∙ sym (append-assoc l (join ls) (join ms))
 
 -- five texts, with the first three as one
 regroup : (h d e x y : List ℕ) → h ++ (d ++ (e ++ (x ++ y))) ≡ ((h ++ (d ++ e)) ++ x) ++ y
