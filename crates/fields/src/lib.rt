@@ -17,13 +17,6 @@ pub fn offset(header: u32) -> u32
     header % 65536
 }
 
-// HParaType of a setting.
-pub fn para_type(setting: u32) -> u32
-    ensures kind { λ r. ⌜ r ≡ parts.paraType setting ⌝ }
-{
-    setting / 65536 % 256
-}
-
 // HParaSubType of a setting.
 pub fn sub_type(setting: u32) -> u32
     ensures sub { λ r. ⌜ r ≡ parts.paraSubType setting ⌝ }

@@ -1,3 +1,4 @@
 pub mod Grants
 pub mod Lent
 pub mod Spans
+pub mod Few

@@ -1,13 +1,20 @@
 -- Two answers that one contract allows are equal, and so is what they leave in each lent buffer: of every public function.
--- A contract is taken as its callers read it: NAME.Learnt, of lifetimes, arguments, an answer and the buffers at exit.
+-- A contract is taken as its callers read it: NAME.Learnt, of lifetimes, arguments, an answer and the buffers at exit. Where the callers'
+-- part is needed too, it is NAME.Asked.
 -- Assumes nothing.
 use mathlib.Core.Path.{_≡_, sym, _∙_}
+use mathlib.Core.List.{[]}
+use native.Mathlib.Omega.{arith}
 use denote.Ref.{now}
+use Rattle.meaning.specs.Grants.{Terms}
+use Rattle.grants.specs.Spans.{held}
+use Rattle.grants.proofs.Spans.{held-1, held-2, held-3}
+use Rattle.registers.specs.Names.{offsetOf}
+use Rattle.registers.proofs.Names.{named-video}
 use Rattle.numbers.proofs.lesser.Reads as lesser
 use Rattle.numbers.proofs.wide.Reads as wide
 use Rattle.fields.proofs.count.Reads as count
 use Rattle.fields.proofs.offset.Reads as offset
-use Rattle.fields.proofs.para_type.Reads as para-type
 use Rattle.fields.proofs.sub_type.Reads as sub-type
 use Rattle.fields.proofs.sub_address.Reads as sub-address
 use Rattle.fields.proofs.data.Reads as data-bits
@@ -26,15 +33,21 @@ use Rattle.registers.proofs.register_video.Reads as register-video
 use Rattle.registers.proofs.row_from.Reads as row-from
 use Rattle.registers.proofs.name_of.Reads as name-of
 use Rattle.registers.proofs.offset_of.Reads as offset-of
-use Rattle.registers.proofs.allowed.Reads as allowed
 use Rattle.states.proofs.well_formed.Reads as well-formed
 use Rattle.states.proofs.marked_between.Reads as marked-between
 use Rattle.grants.proofs.grants_fine.Reads as grants-fine
 use Rattle.grants.proofs.covered.Reads as covered
-use Rattle.verdicts.proofs.parameter_reason.Reads as parameter-reason
-use Rattle.verdicts.proofs.video_reason.Reads as video-reason
-use Rattle.verdicts.proofs.header_reason.Reads as header-reason
-use Rattle.checker.proofs.check.Reads as check
+use Rattle.verdicts.proofs.alpha_constants_reason.Reads as alpha-constants-reason
+use Rattle.verdicts.proofs.target_address_reason.Reads as target-address-reason
+use Rattle.verdicts.proofs.location_reason.Reads as location-reason
+use Rattle.verdicts.proofs.format_reason.Reads as format-reason
+use Rattle.verdicts.proofs.stage_reason.Reads as stage-reason
+use Rattle.verdicts.proofs.levels_reason.Reads as levels-reason
+use Rattle.verdicts.proofs.filters_reason.Reads as filters-reason
+use Rattle.verdicts.proofs.mapping_reason.Reads as mapping-reason
+use Rattle.verdicts.proofs.overlay_reason.Reads as overlay-reason
+use Rattle.verdicts.proofs.alpha_select_reason.Reads as alpha-select-reason
+use Rattle.verdicts.proofs.scaler_reason.Reads as scaler-reason
 use Rattle.emitter.proofs.needed.Reads as needed
 use Rattle.grants.proofs.keep.Reads as keep
 use Rattle.words.proofs.words_from.Reads as words-from
@@ -43,7 +56,16 @@ use Rattle.reader.proofs.read.Reads as read
 use Rattle.writer.proofs.write.Reads as write
 use Rattle.lister.proofs.list.Reads as list
 use Rattle.emitter.proofs.emit.Reads as emit
-use Rattle.applier.proofs.apply.Reads as apply
+use Rattle.states.proofs.copy.Reads as copy
+use Rattle.bodies.proofs.take_target.Reads as take-target
+use Rattle.bodies.proofs.take_stage.Reads as take-stage
+use Rattle.bodies.proofs.take_sample.Reads as take-sample
+use Rattle.bodies.proofs.take_run.Reads as take-run
+use Rattle.packets.proofs.read_packets.Reads as read-packets
+use Rattle.windows.proofs.read.Reads as read-windows
+use Rattle.irangelda.proofs.irangelda_read.Reads as irangelda-read
+use Rattle.irangelda.proofs.irangelda_write.Reads as irangelda-write
+use Rattle.irangelda.proofs.irangelda_list.Reads as irangelda-list
 
 -- what is equal to one thing is equal
 one-answer {ℓ} : {A : Type ℓ} {x y z : A} → x ≡ z → y ≡ z → x ≡ y
@@ -68,9 +90,6 @@ count-one κs a r r' s s' p q = one-answer p q
 
 pub offset-one : Determined offset.Learnt
 offset-one κs a r r' s s' p q = one-answer p q
-
-pub para-type-one : Determined para-type.Learnt
-para-type-one κs a r r' s s' p q = one-answer p q
 
 pub sub-type-one : Determined sub-type.Learnt
 sub-type-one κs a r r' s s' p q = one-answer p q
@@ -130,9 +149,6 @@ name-of-one κs a r r' s s' p q = one-answer p q
 pub offset-of-one : Determined offset-of.Learnt
 offset-of-one κs a r r' s s' p q = one-answer p q
 
-pub allowed-one : Determined allowed.Learnt
-allowed-one κs a r r' s s' p q = one-answer p q
-
 -- ---- states
 
 pub well-formed-one : Determined well-formed.Learnt
@@ -151,19 +167,46 @@ covered-one κs a r r' s s' p q = one-answer p q
 
 -- ---- verdicts
 
-pub parameter-reason-one : Determined parameter-reason.Learnt
-parameter-reason-one κs a r r' s s' p q = one-answer p q
+-- a contract that holds for any terms is taken at those without a grant; one that asks for spans, at the terms that the spans stand for
+abbrev ungranted : Terms
+ungranted = held [] [] []
 
-pub video-reason-one : Determined video-reason.Learnt
-video-reason-one κs a r r' s s' p q = one-answer p q
+pub alpha-constants-reason-one : Determined alpha-constants-reason.Learnt
+alpha-constants-reason-one κs a r r' s s' p q = one-answer (p ungranted) (q ungranted)
 
-pub header-reason-one : Determined header-reason.Learnt
-header-reason-one κs a r r' s s' p q = one-answer p q
+pub target-address-reason-one : Determined target-address-reason.Learnt
+target-address-reason-one κs a r r' s s' p q =
+    let spans = now (a .1 .0) in
+    one-answer (p (held spans [] []) (held-1 spans [] [])) (q (held spans [] []) (held-1 spans [] []))
 
--- ---- checker
+pub location-reason-one : Determined location-reason.Learnt
+location-reason-one κs a r r' s s' p q = one-answer (p ungranted) (q ungranted)
 
-pub check-one : Determined check.Learnt
-check-one κs a r r' s s' p q = one-answer p q
+pub format-reason-one : Determined format-reason.Learnt
+format-reason-one κs a r r' s s' p q = one-answer (p ungranted) (q ungranted)
+
+pub stage-reason-one : Determined stage-reason.Learnt
+stage-reason-one κs a r r' s s' p q = one-answer (p ungranted 4 (omega arith) (omega arith)) (q ungranted 4 (omega arith) (omega arith))
+
+pub levels-reason-one : Determined levels-reason.Learnt
+levels-reason-one κs a r r' s s' p q = one-answer (p ungranted 0 (omega arith)) (q ungranted 0 (omega arith))
+
+pub filters-reason-one : Determined filters-reason.Learnt
+filters-reason-one κs a r r' s s' p q = one-answer (p ungranted 0 (omega arith)) (q ungranted 0 (omega arith))
+
+pub mapping-reason-one : Determined mapping-reason.Learnt
+mapping-reason-one κs a r r' s s' p q = one-answer (p ungranted 0 (omega arith)) (q ungranted 0 (omega arith))
+
+pub overlay-reason-one : Determined overlay-reason.Learnt
+overlay-reason-one κs a r r' s s' p q = one-answer (p ungranted 84 (omega arith) (omega arith)) (q ungranted 84 (omega arith) (omega arith))
+
+pub alpha-select-reason-one : Determined alpha-select-reason.Learnt
+alpha-select-reason-one κs a r r' s s' p q = one-answer (p ungranted) (q ungranted)
+
+pub scaler-reason-one : Determined scaler-reason.Learnt
+scaler-reason-one κs a r r' s s' p q =
+    let spans = now (a .1 .1 .0) in
+    one-answer (p .0 (held [] spans []) (held-2 [] spans [])) (q .0 (held [] spans []) (held-2 [] spans []))
 
 -- ---- emitter
 
@@ -193,5 +236,55 @@ list-one κs a r r' s s' p q = (one-answer (p .0) (q .0), one-answer (p .1) (q .
 pub emit-one : (κs : _) (a : _) (r r' : _) (s s' : _) → emit.Learnt κs a r s → emit.Learnt κs a r' s' → now (s .1 .0) ≡ now (s' .1 .0)
 emit-one κs a r r' s s' p q = one-answer p q
 
-pub apply-one : (κs : _) (a : _) (r r' : _) (s s' : _) → apply.Learnt κs a r s → apply.Learnt κs a r' s' → now (s .1 .0) ≡ now (s' .1 .0)
-apply-one κs a r r' s s' p q = one-answer p q
+pub copy-one : (κs : _) (a : _) (r r' : _) (s s' : _) → copy.Learnt κs a r s → copy.Learnt κs a r' s' → now (s .1 .0) ≡ now (s' .1 .0)
+copy-one κs a r r' s s' p q = one-answer p q
+
+pub take-target-one : (κs : _) (a : _) (r r' : _) (s s' : _) → take-target.Learnt κs a r s → take-target.Learnt κs a r' s'
+    → (r ≡ r') × (now (s .1 .1 .1 .1 .0) ≡ now (s' .1 .1 .1 .1 .0))
+take-target-one κs a r r' s s' p q =
+    let spans = now (a .1 .1 .1 .0) in
+    let g = held spans [] [] in
+    let granted = held-1 spans [] [] in
+    (one-answer (p .0 g granted) (q .0 g granted), one-answer (p .1 g granted) (q .1 g granted))
+
+pub take-stage-one : (κs : _) (a : _) (r r' : _) (s s' : _) → take-stage.Learnt κs a r s → take-stage.Learnt κs a r' s'
+    → (r ≡ r') × (now (s .1 .1 .1 .0) ≡ now (s' .1 .1 .1 .0))
+take-stage-one κs a r r' s s' p q = (one-answer (p .0 ungranted) (q .0 ungranted), one-answer (p .1 ungranted) (q .1 ungranted))
+
+pub take-sample-one : (κs : _) (a : _) (r r' : _) (s s' : _) → take-sample.Learnt κs a r s → take-sample.Learnt κs a r' s'
+    → (r ≡ r') × (now (s .1 .1 .1 .0) ≡ now (s' .1 .1 .1 .0))
+take-sample-one κs a r r' s s' p q = (one-answer (p .0 ungranted) (q .0 ungranted), one-answer (p .1 ungranted) (q .1 ungranted))
+
+-- the cell that its callers must hand it is one of a video register, and has an offset
+pub take-run-one : (κs : _) (a : _) (r r' : _) (s s' : _) → take-run.Asked κs a → take-run.Learnt κs a r s → take-run.Learnt κs a r' s'
+    → (r ≡ r') × (now (s .1 .1 .1 .1 .1 .0) ≡ now (s' .1 .1 .1 .1 .1 .0))
+take-run-one κs a r r' s s' asked p q =
+    let cell = a .1 .1 .0 in
+    let firsts = now (a .1 .1 .1 .0) in
+    let seconds = now (a .1 .1 .1 .1 .0) in
+    let g = held [] firsts seconds in
+    let o = offsetOf cell in
+    let first = held-2 [] firsts seconds in
+    let second = held-3 [] firsts seconds in
+    let named = named-video (cell .0) (asked .1 .0) (asked .1 .1 .0) in
+    (one-answer (p .0 g o first second named) (q .0 g o first second named), one-answer (p .1 g o first second named) (q .1 g o first second named))
+
+pub read-packets-one : (κs : _) (a : _) (r r' : _) (s s' : _) → read-packets.Learnt κs a r s → read-packets.Learnt κs a r' s'
+    → (r ≡ r') × (now (s .1 .1 .1 .1 .1 .0) ≡ now (s' .1 .1 .1 .1 .1 .0))
+read-packets-one κs a r r' s s' p q = (one-answer (p .0) (q .0), one-answer (p .1) (q .1))
+
+pub read-windows-one : (κs : _) (a : _) (r r' : _) (s s' : _) → read-windows.Learnt κs a r s → read-windows.Learnt κs a r' s'
+    → (r ≡ r') × (now (s .1 .1 .0) ≡ now (s' .1 .1 .0))
+read-windows-one κs a r r' s s' p q = let same = one-answer (p .0) (q .0) in (same, one-answer (rw same at (p .1)) (q .1))
+
+pub irangelda-read-one : (κs : _) (a : _) (r r' : _) (s s' : _) → irangelda-read.Learnt κs a r s → irangelda-read.Learnt κs a r' s'
+    → (r ≡ r') × (now (s .1 .1 .0) ≡ now (s' .1 .1 .0))
+irangelda-read-one κs a r r' s s' p q = (one-answer (p .0) (q .0), one-answer (p .1) (q .1))
+
+pub irangelda-write-one : (κs : _) (a : _) (r r' : _) (s s' : _) → irangelda-write.Learnt κs a r s → irangelda-write.Learnt κs a r' s'
+    → (r ≡ r') × (now (s .1 .1 .0) ≡ now (s' .1 .1 .0))
+irangelda-write-one κs a r r' s s' p q = (one-answer (p .0) (q .0), one-answer (p .1) (q .1))
+
+pub irangelda-list-one : (κs : _) (a : _) (r r' : _) (s s' : _) → irangelda-list.Learnt κs a r s → irangelda-list.Learnt κs a r' s'
+    → (r ≡ r') × (now (s .1 .0) ≡ now (s' .1 .0))
+irangelda-list-one κs a r r' s s' p q = (one-answer (p .0) (q .0), one-answer (p .1) (q .1))

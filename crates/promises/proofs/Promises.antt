@@ -1,15 +1,17 @@
 -- What the reader, the writer and the lister promise, of whatever their contracts allow: an answer a, and what is left in the lent buffer.
+-- The calls of the driver answer a number n instead, and their buffers are bytes.
 -- Assumes nothing.
 use mathlib.Core.Path.{_≡_, sym, _∙_}
 use mathlib.Core.Logic.{_↔_, _≢_, _⊎_, inl, inr}
 use mathlib.Core.List.{List, _∷_, _++_}
-use Prim.Native.Nat.{ℕ, _+_, _≤_, _<_}
+use Prim.Native.Nat.{ℕ, _+_, _%_, _≤_, _<_}
 use lib.Dec.{T}
 use lib.ListN.{length, drop, getD}
 use denote.Ref.{now}
 use Rattle.laws.specs.Lists.{All}
+use Rattle.laws.proofs.Tests.{false-of}
 use Rattle.meaning.specs.declared.Answer.{Answer}
-use Rattle.meaning.specs.Words.{Word}
+use Rattle.meaning.specs.Words.{Word, wordsOf}
 use Rattle.meaning.specs.Registers.{cells, cell}
 use Rattle.meaning.specs.Grants.{grantsOf, grantsFine, termsOf, Terms}
 use Rattle.meaning.specs.Batch.{Cut, Longest, Holdable}
@@ -19,11 +21,17 @@ use Rattle.meaning.specs.Writer.{written}
 use Rattle.meaning.specs.Lister.{listing}
 use Rattle.meaning.specs.Reasons.{CellFine, Reads, Writes, Lists}
 use Rattle.meaning.specs.Memory.{Inside, Apart, Safe, Stores}
+use Rattle.meaning.specs.Calls.{readCall, writeCall, listCall}
+use Rattle.meaning.proofs.Calls.{Byte}
 use Rattle.meaning.proofs.Promises as theory
 use Rattle.reader.proofs.read.Reads as read
 use Rattle.writer.proofs.write.Reads as write
 use Rattle.lister.proofs.list.Reads as list
-use Rattle.promises.specs.Contracts.{Reading, Writing, Listing}
+use Rattle.irangelda.proofs.Buffers.{read-13, write-13, list-13}
+use Rattle.irangelda.proofs.irangelda_read.Reads as irangelda-read
+use Rattle.irangelda.proofs.irangelda_write.Reads as irangelda-write
+use Rattle.irangelda.proofs.irangelda_list.Reads as irangelda-list
+use Rattle.promises.specs.Contracts.{Reading, Writing, Listing, ReadingBytes, WritingBytes, ListingBytes, WordBuffers, ListerBuffers, Tells}
 
 -- ==== The contracts
 
@@ -38,6 +46,18 @@ writes κs a r s p = p
 -- and `lister::list`
 pub lists : (κs : _) (a : _) (r : _) (s : _) → list.Learnt κs a r s → Listing (now (a .0)) (now (a .1 .0)) r (now (s .1 .0))
 lists κs a r s p = p
+
+-- the same of the calls of the driver: `irangelda_read`,
+pub reads-bytes : (κs : _) (a : _) (r : _) (s : _) → irangelda-read.Learnt κs a r s → ReadingBytes (now (a .0)) (now (a .1 .0)) (now (a .1 .1 .0)) r (now (s .1 .1 .0))
+reads-bytes κs a r s p = p
+
+-- `irangelda_write`
+pub writes-bytes : (κs : _) (a : _) (r : _) (s : _) → irangelda-write.Learnt κs a r s → WritingBytes (now (a .0)) (now (a .1 .0)) (now (a .1 .1 .0)) r (now (s .1 .1 .0))
+writes-bytes κs a r s p = p
+
+-- and `irangelda_list`
+pub lists-bytes : (κs : _) (a : _) (r : _) (s : _) → irangelda-list.Learnt κs a r s → ListingBytes (now (a .0)) (now (a .1 .0)) r (now (s .1 .0))
+lists-bytes κs a r s p = p
 
 -- ==== Demand 3
 
@@ -155,3 +175,74 @@ module _ (st out : List ℕ) (a : Answer) (left : List ℕ) (list : Listing st o
 -- "at most 2,568 bytes"
 pub listing-at-most-2568 : (st : List ℕ) → length (listing st) ≤ 2568
 listing-at-most-2568 = theory.listing-at-most-2568
+
+-- ==== The calls of the driver, on bytes
+
+module _ (batch grants st : List ℕ) (n : ℕ) (left : List ℕ) (call : ReadingBytes batch grants st n left) where
+  -- "the answer is one number, place × 256 + reason": the number tells both
+  pub read-number-tells-both : Tells n (readCall batch grants st)
+  read-number-tells-both = rw (call .0) (theory.number-tells-both batch grants st .0)
+
+  -- "13: a buffer over 65,536 bytes, or a word buffer not a multiple of 4", before all others, and at place 0
+  pub read-bad-buffer-exactly : ((n % 256 ≡ 13) ↔ (¬ WordBuffers batch grants st)) × (¬ WordBuffers batch grants st → n ≡ 13)
+  read-bad-buffer-exactly = (
+    rw (read-number-tells-both .0) (theory.bad-buffer-exactly batch grants st .read),
+    λ bad. call .0 ∙ sym (read-13 batch grants st (false-of _ bad) .0),
+  )
+
+  -- "No refusal changes a lent buffer": not one byte of the state
+  pub read-refusal-changes-nothing : n % 256 ≢ 0 → left ≡ st
+  read-refusal-changes-nothing z = call .1 ∙ theory.refusal-changes-nothing batch grants st .read-call (rw (read-number-tells-both .0) at z)
+
+  -- "Demands 2 and 3 speak of calls that 13 lets through": the number tells an answer of the reader on the words that the bytes are, and
+  -- what is left is, as words, what it leaves with that answer
+  pub read-call-is-the-words : WordBuffers batch grants st → All Byte batch → All Byte st
+      → (a : Answer) × Tells n a × Reading (wordsOf batch) (wordsOf grants) (wordsOf st) a (wordsOf left)
+  read-call-is-the-words fine b s =
+      let words = theory.calls-are-the-words batch grants st in
+      (readCall batch grants st, read-number-tells-both, (words .read fine, rw (call .1) (words .read-left fine b s)))
+
+module _ (st grants out : List ℕ) (n : ℕ) (left : List ℕ) (call : WritingBytes st grants out n left) where
+  -- "the answer is one number, place × 256 + reason": the number tells both
+  pub write-number-tells-both : Tells n (writeCall st grants out)
+  write-number-tells-both = rw (call .0) (theory.number-tells-both st grants out .1)
+
+  -- "13: a buffer over 65,536 bytes, or a word buffer not a multiple of 4"
+  pub write-bad-buffer-exactly : ((n % 256 ≡ 13) ↔ (¬ WordBuffers st grants out)) × (¬ WordBuffers st grants out → n ≡ 13)
+  write-bad-buffer-exactly = (
+    rw (write-number-tells-both .0) (theory.bad-buffer-exactly st grants out .write),
+    λ bad. call .0 ∙ sym (write-13 st grants out (false-of _ bad) .0),
+  )
+
+  -- "No refusal changes a lent buffer": not one byte of the output
+  pub write-refusal-changes-nothing : n % 256 ≢ 0 → left ≡ out
+  write-refusal-changes-nothing z = call .1 ∙ theory.refusal-changes-nothing st grants out .write-call (rw (write-number-tells-both .0) at z)
+
+  -- what 13 lets through is the writer on the words that the bytes are
+  pub write-call-is-the-words : WordBuffers st grants out
+      → (a : Answer) × Tells n a × Writing (wordsOf st) (wordsOf grants) (wordsOf out) a (wordsOf left)
+  write-call-is-the-words fine =
+      let words = theory.calls-are-the-words st grants out in
+      (writeCall st grants out, write-number-tells-both, (words .write fine, rw (call .1) (words .write-left fine)))
+
+module _ (st out : List ℕ) (n : ℕ) (left : List ℕ) (call : ListingBytes st out n left) where
+  -- "the answer is one number, place × 256 + reason": the number tells both
+  pub list-number-tells-both : Tells n (listCall st out)
+  list-number-tells-both = rw (call .0) (theory.number-tells-both st st out .2)
+
+  -- "13: a buffer over 65,536 bytes, or a word buffer not a multiple of 4": of the lister the state is words
+  pub list-bad-buffer-exactly : ((n % 256 ≡ 13) ↔ (¬ ListerBuffers st out)) × (¬ ListerBuffers st out → n ≡ 13)
+  list-bad-buffer-exactly = (
+    rw (list-number-tells-both .0) (theory.bad-buffer-exactly st st out .list),
+    λ bad. call .0 ∙ sym (list-13 st out (false-of _ bad) .0),
+  )
+
+  -- "No refusal changes a lent buffer": not one byte of the output
+  pub list-refusal-changes-nothing : n % 256 ≢ 0 → left ≡ out
+  list-refusal-changes-nothing z = call .1 ∙ theory.refusal-changes-nothing st st out .list-call (rw (list-number-tells-both .0) at z)
+
+  -- what 13 lets through is the lister on the words that the state's bytes are
+  pub list-call-is-the-words : ListerBuffers st out → (a : Answer) × Tells n a × Listing (wordsOf st) out a left
+  list-call-is-the-words fine =
+      let words = theory.calls-are-the-words st st out in
+      (listCall st out, list-number-tells-both, (words .list fine, call .1 ∙ words .list-left fine))

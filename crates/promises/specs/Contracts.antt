@@ -1,13 +1,19 @@
--- What the contracts of reader, writer and lister allow: an answer, and what is left in the buffer that is lent to be changed.
+-- What the contracts of reader, writer and lister allow, on words and on bytes: an answer, and what is left in the buffer that is lent
+-- to be changed.
 -- Assumes nothing.
 use mathlib.Core.Path.{_≡_}
-use mathlib.Core.List.{List}
-use Prim.Native.Nat.{ℕ}
+use mathlib.Core.Bool.{_&&_}
+use mathlib.Core.List.{List, [], _∷_}
+use Prim.Native.Nat.{ℕ, _/_, _%_}
+use lib.Dec.{T}
 use lib.ListN.{length}
+use Rattle.laws.specs.Lists.{every}
 use Rattle.meaning.specs.declared.Answer.{Answer}
+use Rattle.meaning.specs.Answers.{numberOf}
 use Rattle.meaning.specs.Reader.{readAnswer, readLeaves}
 use Rattle.meaning.specs.Writer.{writeAnswer, writeLeaves}
 use Rattle.meaning.specs.Lister.{listAnswer, listLeaves}
+use Rattle.meaning.specs.Calls.{bufferFine, wordBufferFine, readCall, readCallLeaves, writeCall, writeCallLeaves, listCall, listCallLeaves}
 
 -- `reader::read` on a batch, a grant list and a state answers a and leaves the state `left`
 abbrev pub Reading : List ℕ → List ℕ → List ℕ → Answer → List ℕ → Type 0
@@ -20,3 +26,29 @@ Writing st grants out a left = (a ≡ writeAnswer st grants (length out)) × (le
 -- `lister::list` on a state and an output answers a and leaves the output `left`
 abbrev pub Listing : List ℕ → List ℕ → Answer → List ℕ → Type 0
 Listing st out a left = (a ≡ listAnswer st (length out)) × (left ≡ listLeaves st out)
+
+-- ---- the calls of the driver, on bytes
+
+-- `irangelda_read` on the bytes of a batch, of a grant list and of a state answers the number n and leaves the bytes `left` of the state
+abbrev pub ReadingBytes : List ℕ → List ℕ → List ℕ → ℕ → List ℕ → Type 0
+ReadingBytes batch grants st n left = (n ≡ numberOf (readCall batch grants st)) × (left ≡ readCallLeaves batch grants st)
+
+-- `irangelda_write` on the bytes of a state, of a grant list and of an output answers n and leaves the output `left`
+abbrev pub WritingBytes : List ℕ → List ℕ → List ℕ → ℕ → List ℕ → Type 0
+WritingBytes st grants out n left = (n ≡ numberOf (writeCall st grants out)) × (left ≡ writeCallLeaves st grants out)
+
+-- `irangelda_list` on the bytes of a state and an output answers n and leaves the output `left`
+abbrev pub ListingBytes : List ℕ → List ℕ → ℕ → List ℕ → Type 0
+ListingBytes st out n left = (n ≡ numberOf (listCall st out)) × (left ≡ listCallLeaves st out)
+
+-- what 13 lets through: no "buffer over 65,536 bytes", no "word buffer not a multiple of 4". The buffers of reader and writer are words,
+abbrev pub WordBuffers : List ℕ → List ℕ → List ℕ → Type 0
+WordBuffers a b c = T (every wordBufferFine (a ∷ b ∷ c ∷ []))
+
+-- and so is the lister's state; its output is text
+abbrev pub ListerBuffers : List ℕ → List ℕ → Type 0
+ListerBuffers st out = T (wordBufferFine st && bufferFine out)
+
+-- "the answer is one number, place × 256 + reason": its reason and its place are those of a
+abbrev pub Tells : ℕ → Answer → Type 0
+Tells n a = (n % 256 ≡ a .reason) × (n / 256 ≡ a .place)

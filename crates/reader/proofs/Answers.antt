@@ -1,6 +1,6 @@
 -- The reader's answer and the state after it, by what its tests came to.
 -- Assumes nothing.
-use mathlib.Core.Path.{_≡_, refl, sym}
+use mathlib.Core.Path.{_≡_, refl, sym, ap, _∙_}
 use mathlib.Core.Bool.{true, false}
 use mathlib.Core.List.{List}
 use Prim.Native.Nat.{ℕ}
@@ -35,6 +35,8 @@ module _ (batch grants st : List ℕ) where
     unfolding readAnswer readLeaves
     batch-refused n = rw (e, f, sym h, ne-eqb (a .reason) 0 n) (refl, refl)
 
-    pub batch-accepted : a .reason ≡ 0 → {left : List ℕ} → left ≡ applyAll st (writesOf batch) → (a ≡ readAnswer batch grants st) × (left ≡ readLeaves batch grants st)
+    -- the state's copy is read on, and takes the state's place
+    pub batch-accepted : a .reason ≡ 0 → {own after left : List ℕ} → own ≡ st → after ≡ applyAll own (writesOf batch) → left ≡ after
+        → (a ≡ readAnswer batch grants st) × (left ≡ readLeaves batch grants st)
     unfolding readAnswer readLeaves
-    batch-accepted z l = rw (e, f, sym h, z) (refl, l)
+    batch-accepted z copied read back = rw (e, f, sym h, z) (refl, back ∙ read ∙ ap (λ (x : List ℕ). applyAll x (writesOf batch)) copied)

@@ -1,3 +1,2 @@
 pub mod Names
-pub mod Settings
 pub mod Tree

@@ -7,7 +7,7 @@ use Prim.Native.Nat.{ℕ, zero, suc, _+_, _*_, _≤_, _<_}
 use native.Mathlib.Omega.{arith}
 use borrow.Author.Tests.{eqb-true}
 use lib.Dec.{T, leb, eqb, leb·zero, leb·suc-zero, leb·suc-suc}
-use mir.Facts.{and-yes}
+use mir.Facts.{and-yes, leb-yes}
 use Rattle.laws.specs.Lists.{All, every, from}
 use Rattle.laws.proofs.Lists.{every-from, every-all}
 use Rattle.laws.proofs.Tests.{true-of}
@@ -87,6 +87,17 @@ tested-rows : T (every ends videoRows)
 unfolding every runIn rowFrom findVideo find videoRows scaler
 tested-rows = tt
 
+-- and their cells follow one another as the offsets do, from 84 on
+abbrev follows : Row VideoOffset → ℕ → Bool
+follows r i = isAt (r .cell .0 + i) (findVideo (record { 0 = r .name .0 + 4 * i }))
+
+abbrev in-order : Row VideoOffset → Bool
+in-order r = leb 84 (r .cell .0) && (leb (r .cell .0 + rowFrom (r .cell)) 101 && (leb 1 (rowFrom (r .cell)) && every (follows r) (from 0 (rowFrom (r .cell)))))
+
+tested-order : T (every in-order videoRows)
+unfolding every from isAt rowFrom findVideo find videoRows scaler
+tested-order = tt
+
 missing-of : (f : Found) → T (not (isFound f)) → f ≡ Missing
 missing-of (At c) t = absurd t
 missing-of Missing t = refl
@@ -100,3 +111,31 @@ row-run o c e n =
     let same : f .0 .name ≡ o = ap (λ (x : ℕ). record { 0 = x }) (sym (f .1)) in
     let exact : runIn (f .0 .name) n ≡ leb n (rowFrom (f .0 .cell)) = runs (rowFrom (f .0 .cell)) (f .0 .name) (both .0) (missing-of _ (both .1)) n in
     rw (same, f .2) at exact
+
+module _ (o : VideoOffset) (c : Cell) (e : findVideo o ≡ At c) where
+  ordered : (r : Row VideoOffset) × (o .0 ≡ r .name .0) × (r .cell ≡ c) × T (in-order r)
+  unfolding findVideo
+  ordered = found-row (λ r. T (in-order r)) o c videoRows (every-all in-order videoRows tested-order) e
+
+  -- a video register's cell, and where its row ends
+  pub row-cells : (84 ≤ c .0) × (c .0 + rowFrom c ≤ 101) × (1 ≤ rowFrom c)
+  row-cells =
+      let f = ordered in
+      let low = and-yes (leb 84 (f .0 .cell .0)) _ (f .3) in
+      let high = and-yes (leb (f .0 .cell .0 + rowFrom (f .0 .cell)) 101) _ (low .1) in
+      let some = and-yes (leb 1 (rowFrom (f .0 .cell))) _ (high .1) in
+      let told : (84 ≤ f .0 .cell .0) × (f .0 .cell .0 + rowFrom (f .0 .cell) ≤ 101) × (1 ≤ rowFrom (f .0 .cell)) = (leb-yes (low .0), leb-yes (high .0), leb-yes (some .0)) in
+      rw (f .2) at told
+
+  -- the registers of the row
+  pub row-next : (i : ℕ) → i < rowFrom c → findVideo (record { 0 = o .0 + 4 * i }) ≡ At (cell (c .0 + i))
+  row-next i h =
+      let f = ordered in
+      let low = and-yes (leb 84 (f .0 .cell .0)) _ (f .3) in
+      let high = and-yes (leb (f .0 .cell .0 + rowFrom (f .0 .cell)) 101) _ (low .1) in
+      let some = and-yes (leb 1 (rowFrom (f .0 .cell))) _ (high .1) in
+      let bound : i < rowFrom (f .0 .cell) = rw (f .2) h in
+      let at : findVideo (record { 0 = f .0 .name .0 + 4 * i }) ≡ At (cell (f .0 .cell .0 + i)) =
+      is-at (f .0 .cell .0 + i) _ (every-from (follows (f .0)) 0 (rowFrom (f .0 .cell)) (some .1) i (omega arith) (omega arith))
+      in
+      rw (sym (f .1), f .2) at at

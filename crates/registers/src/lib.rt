@@ -1,8 +1,7 @@
-// The register table: the cell that a name names, the name that a cell has, and the settings that are allowed.
+// The register table: the cell that a name names, and the name that a cell has.
 ghost use mathlib.Core.Path.{_≡_};
 ghost use Prim.Native.Nat.{_<_, _≤_};
 ghost use Rattle.meaning.specs.Registers.{find3D, findVideo};
-ghost use Rattle.meaning.specs.Batch as batch;
 ghost use Rattle.registers.specs.Names.{nameOf, offsetOf, rowFrom};
 use meaning::Cell;
 use meaning::Found;
@@ -127,32 +126,4 @@ pub fn offset_of(cell: Cell) -> VideoOffset
         87..=93 => VideoOffset(0x23e4 + 4 * (c - 87)),
         _ => VideoOffset(0x33e4 + 4 * (c - 94)),
     }
-}
-
-// Type 01 with sub-type 00; type 02 with a stage or a sample.
-fn type_allowed(ty: u32, sub: u32) -> bool
-    ensures allowed { λ r. ⌜ r ≡ batch.typeAllowed ty sub ⌝ }
-{
-    match ty {
-        0x01 => match sub {
-            0x00 => true,
-            _ => false,
-        },
-        0x02 => match sub {
-            0x00..=0x0f => true,
-            0x20..=0x2f => true,
-            _ => false,
-        },
-        _ => false,
-    }
-}
-
-// The setting of a 3D packet is allowed.
-pub fn allowed(setting: u32) -> bool
-    ensures allowed { λ r. ⌜ r ≡ batch.allowed setting ⌝ }
-{
-    if setting % 65536 != 0 {
-        return false;
-    }
-    type_allowed(fields::para_type(setting), fields::sub_type(setting))
 }

@@ -1,9 +1,7 @@
--- Of the marks of a state: how many of some cells are marked; and what a cell has that it must not have.
+-- Of the marks of a state: how many of some cells are marked.
 -- Assumes nothing.
-use mathlib.Core.Bool.{cond}
 use mathlib.Core.List.{List}
-use Prim.Native.Nat.{ℕ, zero, suc, _+_, _/_}
-use lib.Dec.{eqb}
+use Prim.Native.Nat.{ℕ, zero, suc, _+_}
 use Rattle.meaning.specs.Registers.{cell}
 use Rattle.meaning.specs.State.{markAt}
 
@@ -16,7 +14,3 @@ oneIfMarked (suc m) = 1
 unfoldable pub markedIn : List ℕ → ℕ → ℕ → ℕ
 markedIn st i zero = 0
 markedIn st i (suc n) = oneIfMarked (markAt st (cell i)) + markedIn st (suc i) n
-
--- a value and a mark: 0 exactly if such a cell is well-formed. An unmarked value must be 0, and half of a mark is 0 if that is 1
-unfoldable pub faultOf : ℕ → ℕ → ℕ
-faultOf value mark = cond (eqb mark 0) value (mark / 2)

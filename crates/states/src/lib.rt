@@ -1,18 +1,18 @@
 // The register state: 101 values, then 101 marks.
 ghost use mathlib.Core.Path.{_≡_};
+ghost use mathlib.Core.Bool.{_&&_};
 ghost use Prim.Native.Nat.{_≤_, _-_};
+ghost use lib.Dec.{leb, eqb};
 ghost use lib.ListN.{length};
+ghost use Rattle.laws.specs.Tests.{implies};
 ghost use Rattle.meaning.specs.State.{wellFormed};
-ghost use Rattle.states.specs.Marks.{oneIfMarked, markedIn, faultOf};
+ghost use Rattle.states.specs.Marks.{oneIfMarked, markedIn};
 
-// One number for both rules of a cell, so that the faults of many cells can be gathered by `|`.
+// 0 exactly if the cell is well-formed: no mark above 1, and no value without a mark. Where the mark is 0, one less is all ones.
 fn fault(value: u32, mark: u32) -> u32
-    ensures { λ r. ⌜ r ≡ faultOf value mark ⌝ }
+    ensures { λ r. ⌜ eqb r 0 ≡ (leb mark 1 && implies (eqb mark 0) (eqb value 0)) ⌝ }
 {
-    if mark == 0 {
-        return value;
-    }
-    mark / 2
+    mark / 2 | value & std::num::wrapping_sub_u32(mark, 1)
 }
 
 fn one(mark: u32) -> usize
@@ -24,15 +24,21 @@ fn one(mark: u32) -> usize
     1
 }
 
-// Each mark is 0 or 1 and an unmarked value is 0. There is no early way out, so that the loop becomes one over vectors.
+// Each mark is 0 or 1 and an unmarked value is 0. There is no early way out, so that the loop becomes one over vectors; five cells go
+// before it, since 96 are a whole number of vectors.
 pub fn well_formed(state: &[u32]) -> bool
     ensures formed { λ r. ⌜ r ≡ wellFormed (now (state .entry)) ⌝ }
 {
     if state.len() != 202 {
         return false;
     }
-    let mut bad: u32 = 0;
-    let mut c = 0;
+    let none: u32 = 0;
+    let one = none | fault(state[0], state[101]);
+    let two = one | fault(state[1], state[102]);
+    let three = two | fault(state[2], state[103]);
+    let four = three | fault(state[3], state[104]);
+    let mut bad = four | fault(state[4], state[105]);
+    let mut c = 5;
     while c < 101 {
         bad = bad | fault(state[c], state[101 + c]);
         c += 1;
@@ -53,4 +59,16 @@ pub fn marked_between(state: &[u32], first: usize, end: usize) -> usize
         c += 1;
     }
     n
+}
+
+// Copies one state over another.
+pub fn copy(from: &[u32], to: &mut [u32])
+    requires same { ⌜ length (now from) ≡ length (now to) ⌝ }
+    ensures copied { λ _. ⌜ now (to .exit) ≡ now (from .entry) ⌝ }
+{
+    let mut i = 0;
+    while i < to.len() {
+        to[i] = from[i];
+        i += 1;
+    }
 }

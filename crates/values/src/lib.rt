@@ -154,7 +154,8 @@ pub fn filters(value: u32) -> bool
     if !depth_code(value % 0x10) {
         return false;
     }
-    both_two(value / 0x2000 % 8, value / 0x80 % 8)
+    // Of fields that are at most 3 the low two bits tell all, so that the four tests above become one mask.
+    both_two(value / 0x2000 % 4, value / 0x80 % 4)
 }
 
 // Nearest, linear: volume textures know no other filter.

@@ -1,67 +1,81 @@
--- 7, 8 and 9 of a row of the table, from the answers of the tests that its line of code asks.
+-- 7, 8 and 9 of a register, from the tests that its function asks, in the order in which it asks them.
 -- Assumes nothing.
-use mathlib.Core.Path.{_≡_, sym, _∙_}
+use mathlib.Core.Path.{_≡_, refl, sym, ap, _∙_}
 use mathlib.Core.Bool.{Bool, true, false, not}
 use mathlib.Core.List.{List}
-use Prim.Native.Nat.{ℕ, _+_, _≤_, _<_}
-use native.Mathlib.Omega.{arith}
-use native.Mathlib.Decide.{ℕ-discrete}
-use lib.Dec.{eqb, leb, ltb}
+use Prim.Native.Nat.{ℕ, _+_}
+use lib.Dec.{eqb}
 use lib.Bits.{bitAnd, and-comm, and-zero-l}
-use borrow.Author.Tests.{eq-eqb, ne-eqb, not-true, not-false, leb-true, ltb-true}
-use Rattle.meaning.specs.Registers.{Held}
+use borrow.Author.Tests.{eq-eqb}
+use Rattle.laws.proofs.Arms.{told-true, told-false}
+use Rattle.meaning.specs.declared.Cell.{Cell}
+use Rattle.meaning.specs.Registers.{cell, Register, registerAt}
 use Rattle.meaning.specs.Grants.{Terms, granted}
 use Rattle.meaning.specs.Batch.{reaches}
 use Rattle.meaning.specs.Answers.{bitSet, badValue, notGranted, success}
 use Rattle.meaning.specs.Reader.{unless, valueReason}
 use Rattle.grants.specs.Spans.{coveredBy}
-use Rattle.verdicts.specs.Reasons.{Spanned}
+use Rattle.verdicts.specs.Reasons.{Spanned, Scaler, first, second, scalerRegister}
+
+-- a row's columns in their order: a mask, a rule and an address
+abbrev pub columns : Terms → Register → ℕ → ℕ
+columns g row v = unless (eqb (bitAnd v (row .clear)) 0) bitSet (unless (row .values v) badValue (unless (reaches g (row .holds v)) notGranted success))
+
+-- a register at its cell judges by the columns of its row
+pub at-cell : (g : Terms) (v : ℕ) (c : Cell) {row : Register} {x : ℕ} → registerAt c ≡ row → x ≡ columns g row v → x ≡ valueReason g (registerAt c) v
+unfolding valueReason
+at-cell g v c own e = rw own e
 
 -- a test that fails decides
-pub refused : (b : Bool) (r more : ℕ) → not b ≡ true → r ≡ unless b r more
+pub refused : {b s : Bool} (r more : ℕ) → b ≡ s → not b ≡ true → r ≡ unless s r more
 unfolding unless
-refused b r more t = rw (not-true b t)
+refused r more e t = rw (told-false e t)
 
 -- past a test that holds, what follows decides
-pub passed : (b : Bool) (x r more : ℕ) → not b ≡ false → x ≡ more → x ≡ unless b r more
+pub passed : {b s : Bool} (x r more : ℕ) → b ≡ s → not b ≡ false → x ≡ more → x ≡ unless s r more
 unfolding unless
-passed b x r more t e = rw (not-false b t) e
+passed x r more e t next = rw (told-true e t) next
 
-pub ruleset order = (refused, passed)
+-- and past a rule that every value keeps
+pub unasked : (x r more : ℕ) → x ≡ more → x ≡ unless true r more
+unfolding unless
+unasked x r more next = next
 
--- the tests of a line are those of its row
-pub as-row : {clear fine granted : Bool} {r : ℕ} (g : Terms) (w m : ℕ) (f : ℕ → Bool) (h : ℕ → Held) (v : ℕ)
-    → r ≡ unless clear bitSet (unless fine badValue (unless granted notGranted success))
-    → clear ≡ eqb (bitAnd v m) 0 → fine ≡ f v → granted ≡ reaches g (h v)
-    → r ≡ valueReason g (record { width = w; clear = m; values = f; holds = h }) v
-unfolding valueReason
-as-row g w m f h v e p q s = e ∙ rw (p, q, s)
-
--- a row without a mask
-pub no-mask : (v : ℕ) → true ≡ eqb (bitAnd v 0) 0
-no-mask v = sym (eq-eqb (bitAnd v 0) 0 (and-comm v 0 ∙ and-zero-l v))
+-- a mask without a bit is such a rule
+pub unmasked : (v x r more : ℕ) → x ≡ more → x ≡ unless (eqb (bitAnd v 0) 0) r more
+unmasked v x r more next = rw (eq-eqb (bitAnd v 0) 0 (and-comm v 0 ∙ and-zero-l v)) (unasked x r more next)
 
 -- an address that the spans cover is granted
 pub spanned : (g : Terms) (role : ℕ) (spans : List ℕ) (a : ℕ) {b : Bool} → Spanned g role spans → b ≡ coveredBy spans a → b ≡ granted (g .grants) role a
 spanned g role spans a given e = e ∙ sym (given a)
 
--- a number below a range, or past it, is no key in it
-pub under : (x lo k : ℕ) → x < lo → leb lo k ≡ true → x ≡ k → ⊥
-under x lo k h t e = omega (arith, leb-true lo k t)
+-- for `search`: each way out of a row's function
+pub ruleset order = (refused, passed, unasked, unmasked, spanned)
 
-pub beyond : (x hi k : ℕ) → hi ≤ x → ltb k hi ≡ true → x ≡ k → ⊥
-beyond x hi k h t e = omega (arith, ltb-true k hi t)
+-- ---- a scaler's register, from its mask and from what it holds
 
--- copies are told apart as the originals are
-pub copies : (up x y : ℕ) → eqb (up + x) (up + y) ≡ eqb x y
-copies up x y =
-    elim (ℕ-discrete x y) [
-      | yes p ↦ eq-eqb (up + x) (up + y) (omega arith) ∙ sym (eq-eqb x y p)
-      | no p ↦ ne-eqb (up + x) (up + y) (λ e. p (omega arith)) ∙ sym (ne-eqb x y p)
-    ]
+module _ (i v : ℕ) (spans : List ℕ) where
+  -- the reason of a value for the register so far on from the first one at c
+  abbrev Judged : ℕ → ℕ → ℕ → Type 0
+  Judged x c role = (g : Terms) → Spanned g role spans → x ≡ valueReason g (registerAt (cell (c + i))) v
 
--- for `search`, with the rules of `match` arms: each line of the table
-pub ruleset lines = (as-row, no-mask, spanned)
+  abbrev Both : ℕ → Type 0
+  Both x = Judged x 87 2 × Judged x 94 3
 
--- and a name that no row has, between the ranges and past them
-pub ruleset gaps = (ne-eqb, under, beyond)
+  both : (x : ℕ) → ((c role : ℕ) → Scaler c role → Judged x c role) → Both x
+  both x either = (either 87 2 first, either 94 3 second)
+
+  module _ {m : ℕ} (mask : (c role : ℕ) → Scaler c role → m ≡ registerAt (cell (c + i)) .clear) where
+    -- 7 is told before it is asked what the register holds
+    pub masked : {b : Bool} → b ≡ eqb (bitAnd v m) 0 → not b ≡ true → Both bitSet
+    masked e t = both bitSet (λ c role s g given. at-cell g v _ refl (refused bitSet _ (rw (mask c role s) at e) t))
+
+    -- then that decides
+    pub held : (kind : Bool) {b : Bool} {x : ℕ}
+        → ((c role : ℕ) → Scaler c role → registerAt (cell (c + i)) ≡ scalerRegister role (registerAt (cell (c + i)) .clear) b) → b ≡ kind
+        → ((g : Terms) (role : ℕ) → Spanned g role spans → x ≡ columns g (scalerRegister role m kind) v)
+        → Both x
+    held kind {b} {x} holds told e =
+        both x (λ c role s g given.
+        let own = holds c role s ∙ ap (λ (n : ℕ). scalerRegister role n b) (sym (mask c role s)) ∙ ap (scalerRegister role m) told in
+        at-cell g v _ own (e g role given))

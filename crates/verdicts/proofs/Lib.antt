@@ -1,4 +1,2 @@
-pub mod Headers
-pub mod Judging
-pub mod Rows
 pub mod Registers
+pub mod Judging

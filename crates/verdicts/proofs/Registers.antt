@@ -1,23 +1,20 @@
 -- The register of a row's cell is the row's: the cells are numbered as the rows stand, so no other row has the number.
 -- Assumes nothing.
-use mathlib.Core.Path.{_≡_, refl, ap, subst, _∙_}
-use mathlib.Core.Bool.{Bool, true, false, cond}
+use mathlib.Core.Path.{_≡_, refl, sym, ap, subst, _∙_}
+use mathlib.Core.Bool.{Bool, true, false}
 use mathlib.Core.List.{List, [], _∷_, _++_, map}
-use Prim.Native.Nat.{ℕ, zero, suc, _+_, _-_, _≤_, _<_}
+use Prim.Native.Nat.{ℕ, zero, suc, _+_, _*_, _-_, _/_, _≤_, _<_}
 use native.Mathlib.Omega.{arith}
 use native.Mathlib.Decide.{ℕ-discrete}
-use lib.Dec.{T, leb, eqb, leb→le}
 use lib.ListN.{length}
 use borrow.Author.Tests.{eq-eqb, ne-eqb}
 use Rattle.laws.specs.Lists.{All, join, from}
-use Rattle.laws.specs.Tests.{within}
 use Rattle.laws.proofs.Lists.{all-map, all-both, all-split}
-use Rattle.laws.proofs.Tests.{within-iff}
 use Rattle.meaning.specs.declared.Cell.{Cell}
 use Rattle.meaning.specs.declared.SubAddress.{SubAddress}
-use Rattle.meaning.specs.Registers.{cell, Register, Row, Group, targetGroup, stage, sample, groups, videoRows, registerAmong, registerAt}
+use Rattle.meaning.specs.Registers.{any, noAddress, alphaSelect, cell, Register, Row, Group, targetGroup, stage, sample, groups, scaler, videoRows, registerAmong, registerAt}
 use Rattle.meaning.proofs.Table.{Rows, Row3D, RowVideo, Groups, table-3D, table-video, firstVideo}
-use Rattle.registers.proofs.Tree.{rowsOf}
+use Rattle.verdicts.specs.Reasons.{Scaler, first, second, scalerRegister}
 
 -- the table has for the row's cell the row's own register
 abbrev pub Own : {Name : Type 0} → Row Name → Type 0
@@ -93,7 +90,7 @@ own-rows : All Own (rows groups)
 unfolding registerAt
 own-rows = own _ 0 (rows groups) (numbered-groups 0 groups table-3D)
 
-pub own-video : All Own videoRows
+own-video : All Own videoRows
 unfolding registerAt
 own-video =
     all-both _ _ _
@@ -129,18 +126,67 @@ own-groups =
     let numbered = all-split OwnRows (map stage (from 0 16)) (map sample (from 0 16)) (all .1) in
     (all .0, numbered .0, numbered .1)
 
--- where a test picks the rows
-picked : (P : Row SubAddress → Type 0) (b : Bool) (xs ys : List (Row SubAddress)) → (T b → All P xs) → All P ys → All P (cond b xs ys)
-picked P true xs ys f a = f tt
-picked P false xs ys f a = a
+-- ---- the registers at the cells that the functions are for
 
--- of whichever type and sub-type
-pub own-3D : (t u : ℕ) → All Own (rowsOf t u)
-unfolding rowsOf
-own-3D t u =
-    picked Own (eqb t 0x01) _ _ (λ is-1. picked Own (eqb u 0x00) _ _ (λ is-0. own-groups .0) tt)
-    (picked Own (eqb t 0x02) _ _
-    (λ is-2.
-    picked Own (leb u 0x0F) _ _ (λ l. by-number OwnRows stage 0 16 (own-groups .1) u (omega arith) (omega (arith, leb→le u 0x0F l)))
-    (picked Own (within 0x20 0x2F u) _ _ (λ w. let p = within-iff 0x20 0x2F u .0 w in by-number OwnRows sample 0 16 (own-groups .2) (u - 0x20) (omega arith) (omega (arith, p .0, p .1))) tt))
-    tt)
+-- one number of two that follow each other
+pub one-of-two : (P : ℕ → Type 0) (i j k : ℕ) → P i → P j → j ≡ suc i → i ≤ k → k < i + 2 → P k
+one-of-two P i j k p q next low high =
+    elim (ℕ-discrete i k) [
+      | yes e ↦ subst P e p
+      | no e ↦ let other : j ≡ k = omega arith in subst P other q
+    ]
+
+-- the cell has the register
+abbrev Has : Register → ℕ → Type 0
+Has r c = registerAt (cell c) ≡ r
+
+pub own-target : OwnRows targetGroup
+own-target = own-groups .0
+
+-- both registers of every stage are alike
+pub at-stage : (c : ℕ) → 4 ≤ c → c < 36 → registerAt (cell c) ≡ record { width = 24; clear = 0xFF0000; values = any; holds = noAddress }
+unfolding stage
+at-stage c low high =
+    let n : ℕ = (c - 4) / 2 in
+    let rows : OwnRows (stage n) = by-number OwnRows stage 0 16 (own-groups .1) n (omega arith) (omega arith) in
+    one-of-two (Has _) (4 + 2 * n) (5 + 2 * n) c (rows .0) (rows .1 .0) (omega arith) (omega arith) (omega arith)
+
+pub own-sample : (n : ℕ) → n < 16 → OwnRows (sample n)
+own-sample n h = by-number OwnRows sample 0 16 (own-groups .2) n (omega arith) (omega arith)
+
+-- 84 and 85 are alike
+pub at-overlay : (c : ℕ) → 84 ≤ c → c < 86 → registerAt (cell c) ≡ record { width = 32; clear = 0xF800F800; values = any; holds = noAddress }
+unfolding videoRows
+at-overlay c low high = one-of-two (Has _) 84 85 c (own-video .0) (own-video .1 .0) (omega arith) low high
+
+pub at-alpha-select : registerAt (cell 86) ≡ record { width = 32; clear = 0xFFE000FC; values = alphaSelect; holds = noAddress }
+unfolding videoRows
+at-alpha-select = own-video .1 .1 .0
+
+own-scalers : All Own (scaler 87 0x2000 2) × All Own (scaler 94 0x3000 3)
+unfolding videoRows
+own-scalers = all-split Own (scaler 87 0x2000 2) (scaler 94 0x3000 3) (own-video .1 .1 .1)
+
+-- of either scaler; its offsets play no part here
+pub own-scaler : (c role : ℕ) → Scaler c role → All Own (scaler c 0 role)
+unfolding scaler
+own-scaler _ _ first = own-scalers .0
+own-scaler _ _ second = own-scalers .1
+
+-- the mask of a row that stands so far on
+pub clear-at : (c i j : ℕ) {row : Register} → registerAt (cell j) ≡ row → c + i ≡ j → row .clear ≡ registerAt (cell (c + i)) .clear
+clear-at c i j own at = sym (ap (λ (k : ℕ). registerAt (cell k) .clear) at ∙ ap (λ (r : Register). r .clear) own)
+
+-- whatever it holds, it has its mask
+clear-of : (role m : ℕ) (b : Bool) → scalerRegister role m b .clear ≡ m
+clear-of role m true = refl
+clear-of role m false = refl
+
+-- the scaler's register at the cell holds an address, or it does not
+abbrev pub Holds : ℕ → Bool → ℕ → Type 0
+Holds role b c = registerAt (cell c) ≡ scalerRegister role (registerAt (cell c) .clear) b
+
+pub holds : (role m c : ℕ) (b : Bool) → registerAt (cell c) ≡ scalerRegister role m b → Holds role b c
+holds role m c b own =
+    let clear : registerAt (cell c) .clear ≡ m = ap (λ (r : Register). r .clear) own ∙ clear-of role m b in
+    own ∙ ap (λ (k : ℕ). scalerRegister role k b) (sym clear)

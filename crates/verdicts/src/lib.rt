@@ -1,15 +1,13 @@
-// What speaks against a word: the reason of a header, of a value for a 3D register, of a value for a video register; 0 where nothing does.
+// What speaks against a value: a function for each row of the table; 0 where nothing does. Which register a word is for is the callers' matter.
 ghost use mathlib.Core.Path.{_≡_};
-ghost use Prim.Native.Nat.{ℕ, _<_, _^_};
-ghost use Rattle.meaning.specs.Registers.{targetGroup, stage, sample, scaler, find3D, findVideo};
+ghost use Prim.Native.Nat.{ℕ, _+_, _*_, _≤_, _<_, _^_};
+ghost use lib.Dec.{eqb};
+ghost use lib.Bits.{bitAnd};
+ghost use Rattle.meaning.specs.Registers.{cell, registerAt};
 ghost use Rattle.meaning.specs.Grants.{Terms};
-ghost use Rattle.meaning.specs.Answers.{badCount, noRegister, bitSet, badValue, notGranted, success};
-ghost use Rattle.meaning.specs.Reader.{unless, headerReason, valueReason, foundReason};
-ghost use Rattle.grants.specs.Spans.{held};
-ghost use Rattle.verdicts.specs.Reasons.{addressed, standsAt, copied, rowReason, Spanned, addressRegister, runReason};
-use meaning::Found;
-use meaning::SubAddress;
-use meaning::VideoOffset;
+ghost use Rattle.meaning.specs.Answers.{bitSet, success};
+ghost use Rattle.meaning.specs.Reader.{unless, valueReason};
+ghost use Rattle.verdicts.specs.Reasons.{Spanned, Scaler, scalerRegister};
 use values::alpha_constants;
 use values::alpha_select;
 use values::filters;
@@ -20,169 +18,179 @@ use values::mapping;
 use values::memory_location;
 use values::must_be_clear;
 
-// 7, 8 and 9, in this order.
-fn judged(clear: bool, fine: bool, granted: bool) -> u32
-    ensures reason { λ r. ⌜ r ≡ unless clear bitSet (unless fine badValue (unless granted notGranted success)) ⌝ }
+// 7 where a bit of the mask is set.
+fn masked_reason(value: u32, mask: u32) -> u32
+    ensures reason { λ r. ⌜ r ≡ unless (eqb (bitAnd value mask) 0) bitSet success ⌝ }
 {
-    if !clear {
+    if !must_be_clear(value, mask) {
         return 7;
     }
-    if !fine {
+    0
+}
+
+// 01.00.3F, cell 0.
+pub fn alpha_constants_reason(value: u32) -> u32
+    ensures reason { λ r. ⌜ ((g : Terms) → r ≡ valueReason g (registerAt (cell 0)) value) ⌝ }
+{
+    if !must_be_clear(value, 0x800800) {
+        return 7;
+    }
+    if !alpha_constants(value) {
         return 8;
     }
-    if !granted {
+    0
+}
+
+// 01.00.50, cell 1. The address is in steps of 256, so that a value of 24 bits names any of them.
+pub fn target_address_reason(value: u32, targets: &[u32]) -> u32
+    requires narrow { ⌜ value < 2 ^ 24 ⌝ }
+    ensures reason { λ r. ⌜ ((g : Terms) → Spanned g 1 (now (targets .entry)) → r ≡ valueReason g (registerAt (cell 1)) value) ⌝ }
+{
+    if !grants::covered(targets, value * 256) {
         return 9;
     }
     0
 }
 
-// 01.00: cells 0 to 3, a line for each. The target's address is in steps of 256, so that a value of 24 bits names any of them.
-fn target_reason(address: SubAddress, value: u32, targets: &[u32]) -> u32
-    requires narrow { ⌜ value < 2 ^ 24 ⌝ }
-    ensures reason { λ r. ⌜ ((g : Terms) → Spanned g 1 (now (targets .entry)) → r ≡ rowReason g noRegister (addressed address) (targetGroup .rows) value) ⌝ }
+// 01.00.51, cell 2.
+pub fn location_reason(value: u32) -> u32
+    ensures reason { λ r. ⌜ ((g : Terms) → r ≡ valueReason g (registerAt (cell 2)) value) ⌝ }
 {
-    let a = address.0;
-    match a {
-        0x3f => judged(must_be_clear(value, 0x800800), alpha_constants(value), true),
-        0x50 => judged(true, true, grants::covered(targets, value * 256)),
-        0x51 => judged(must_be_clear(value, 0x0fffff), location(value), true),
-        0x52 => judged(must_be_clear(value, 0x006fff), format_byte(value), true),
-        _ => 6,
+    if !must_be_clear(value, 0x0fffff) {
+        return 7;
+    }
+    if !location(value) {
+        return 8;
+    }
+    0
+}
+
+// 01.00.52, cell 3.
+pub fn format_reason(value: u32) -> u32
+    ensures reason { λ r. ⌜ ((g : Terms) → r ≡ valueReason g (registerAt (cell 3)) value) ⌝ }
+{
+    if !must_be_clear(value, 0x006fff) {
+        return 7;
+    }
+    if !format_byte(value) {
+        return 8;
+    }
+    0
+}
+
+// 02.0n.50 and .51, cells 4 to 35: two for each stage, and all of them alike.
+pub fn stage_reason(value: u32) -> u32
+    ensures reason { λ r. ⌜ ((g : Terms) (c : ℕ) → 4 ≤ c → c < 36 → r ≡ valueReason g (registerAt (cell c)) value) ⌝ }
+{
+    masked_reason(value, 0xff0000)
+}
+
+// 02.2n.30, cells 36+3n.
+pub fn levels_reason(value: u32) -> u32
+    ensures reason { λ r. ⌜ ((g : Terms) (n : ℕ) → n < 16 → r ≡ valueReason g (registerAt (cell (36 + 3 * n))) value) ⌝ }
+{
+    if !must_be_clear(value, 0xc00000) {
+        return 7;
+    }
+    if !levels(value) {
+        return 8;
+    }
+    0
+}
+
+// 02.2n.31, cells 37+3n.
+pub fn filters_reason(value: u32) -> u32
+    ensures reason { λ r. ⌜ ((g : Terms) (n : ℕ) → n < 16 → r ≡ valueReason g (registerAt (cell (37 + 3 * n))) value) ⌝ }
+{
+    if !must_be_clear(value, 0xe00000) {
+        return 7;
+    }
+    if !filters(value) {
+        return 8;
+    }
+    0
+}
+
+// 02.2n.32, cells 38+3n.
+pub fn mapping_reason(value: u32) -> u32
+    ensures reason { λ r. ⌜ ((g : Terms) (n : ℕ) → n < 16 → r ≡ valueReason g (registerAt (cell (38 + 3 * n))) value) ⌝ }
+{
+    if !must_be_clear(value, 0xc0fe00) {
+        return 7;
+    }
+    if !mapping(value) {
+        return 8;
+    }
+    0
+}
+
+// 2208 and 220C, cells 84 and 85.
+pub fn overlay_reason(value: u32) -> u32
+    ensures reason { λ r. ⌜ ((g : Terms) (c : ℕ) → 84 ≤ c → c < 86 → r ≡ valueReason g (registerAt (cell c)) value) ⌝ }
+{
+    masked_reason(value, 0xf800f800)
+}
+
+// 2210, cell 86.
+pub fn alpha_select_reason(value: u32) -> u32
+    ensures reason { λ r. ⌜ ((g : Terms) → r ≡ valueReason g (registerAt (cell 86)) value) ⌝ }
+{
+    if !must_be_clear(value, 0xffe000fc) {
+        return 7;
+    }
+    if !alpha_select(value) {
+        return 8;
+    }
+    0
+}
+
+// The bits that must be clear in each of a scaler's registers: the second scaler is a copy of the first.
+fn scaler_mask(index: usize) -> u32
+    requires seven { ⌜ index < 7 ⌝ }
+    ensures mask { λ r. ⌜ ((c role : ℕ) → Scaler c role → r ≡ registerAt (cell (c + index)) .clear) ⌝ }
+{
+    match index {
+        0 => 0x76ffe0fe,
+        1 => 0x6ffe0000,
+        2 => 0x2000000c,
+        3 => 0xe000000c,
+        4 => 0xffffc00f,
+        5 => 0x0decc00f,
+        _ => 0xe000000c,
     }
 }
 
-// 02.0n: cells 4 to 35, two for each stage, and all of them alike.
-fn stage_reason(address: SubAddress, value: u32) -> u32
-    ensures reason { λ r. ⌜ ((g : Terms) (n : ℕ) → r ≡ rowReason g noRegister (addressed address) (stage n .rows) value) ⌝ }
+// Which of them hold an address; the others take any value.
+fn scaler_holds(index: usize) -> bool
+    requires seven { ⌜ index < 7 ⌝ }
+    ensures holds { λ r. ⌜ ((c role : ℕ) → Scaler c role → registerAt (cell (c + index)) ≡ scalerRegister role (registerAt (cell (c + index)) .clear) r) ⌝ }
 {
-    let a = address.0;
-    match a {
-        0x50..=0x51 => judged(must_be_clear(value, 0xff0000), true, true),
-        _ => 6,
+    match index {
+        0..=1 => false,
+        2..=3 => true,
+        4..=5 => false,
+        _ => true,
     }
 }
 
-// 02.2n: cells 36 to 83, the same three lines for each sample.
-fn sample_reason(address: SubAddress, value: u32) -> u32
-    ensures reason { λ r. ⌜ ((g : Terms) (n : ℕ) → r ≡ rowReason g noRegister (addressed address) (sample n .rows) value) ⌝ }
+// 23E4 to 23FC, cells 87 to 93, and 33E4 to 33FC, cells 94 to 100: the scalers differ in nothing but the role of their addresses. An
+// address is bits 28:4 kept in place, the rest 0.
+pub fn scaler_reason(index: usize, value: u32, spans: &[u32]) -> u32
+    requires seven { ⌜ index < 7 ⌝ }
+    ensures first { λ r. ⌜ ((g : Terms) → Spanned g 2 (now (spans .entry)) → r ≡ valueReason g (registerAt (cell (87 + index))) value) ⌝ }
+    ensures second { λ r. ⌜ ((g : Terms) → Spanned g 3 (now (spans .entry)) → r ≡ valueReason g (registerAt (cell (94 + index))) value) ⌝ }
 {
-    let a = address.0;
-    match a {
-        0x30 => judged(must_be_clear(value, 0xc00000), levels(value), true),
-        0x31 => judged(must_be_clear(value, 0xe00000), filters(value), true),
-        0x32 => judged(must_be_clear(value, 0xc0fe00), mapping(value), true),
-        _ => 6,
+    if !must_be_clear(value, scaler_mask(index)) {
+        return 7;
     }
-}
-
-// 6 to 9 of a value for the register that a type, a sub-type and a sub-address name.
-pub fn parameter_reason(
-    ty: u32,
-    sub: u32,
-    address: SubAddress,
-    value: u32,
-    targets: &[u32],
-    firsts: &[u32],
-    seconds: &[u32],
-) -> u32
-    requires narrow { ⌜ value < 2 ^ 24 ⌝ }
-    ensures reason { λ r. ⌜ r ≡ foundReason (held (now (targets .entry)) (now (firsts .entry)) (now (seconds .entry))) noRegister (find3D ty sub address) value ⌝ }
-{
-    match ty {
-        0x01 => match sub {
-            0x00 => target_reason(address, value, targets),
-            _ => 6,
-        },
-        0x02 => match sub {
-            0x00..=0x0f => stage_reason(address, value),
-            0x20..=0x2f => sample_reason(address, value),
-            _ => 6,
-        },
-        _ => 6,
+    if !scaler_holds(index) {
+        return 0;
     }
-}
-
-// Of a register that holds a scaler's address: bits 28:4 kept in place, the rest 0.
-fn address_reason(value: u32, mask: u32, spans: &[u32]) -> u32
-    ensures reason { λ r. ⌜ ((g : Terms) (role : ℕ) → Spanned g role (now (spans .entry)) → r ≡ valueReason g (addressRegister role mask) value) ⌝ }
-{
-    let address = value / 16 % 0x2000000 * 16;
-    judged(
-        must_be_clear(value, mask),
-        memory_location(value),
-        grants::covered(spans, address),
-    )
-}
-
-// Cells 87 to 93 and 94 to 100: the scalers are copies of one original, and differ in nothing but the role of their addresses.
-fn scaler_reason(original: VideoOffset, value: u32, spans: &[u32]) -> u32
-    ensures reason { λ r. ⌜ ((g : Terms) (c up role : ℕ) → Spanned g role (now (spans .entry)) → r ≡ rowReason g badCount (standsAt (copied up original)) (scaler c up role) value) ⌝ }
-{
-    let o = original.0;
-    match o {
-        0x3e4 => judged(must_be_clear(value, 0x76ffe0fe), true, true),
-        0x3e8 => judged(must_be_clear(value, 0x6ffe0000), true, true),
-        0x3ec => address_reason(value, 0x2000000c, spans),
-        0x3f0 => address_reason(value, 0xe000000c, spans),
-        0x3f4 => judged(must_be_clear(value, 0xffffc00f), true, true),
-        0x3f8 => judged(must_be_clear(value, 0x0decc00f), true, true),
-        0x3fc => address_reason(value, 0xe000000c, spans),
-        _ => 4,
+    if !memory_location(value) {
+        return 8;
     }
-}
-
-// 7 to 9 of a value for the video register at an offset. A run that leaves the registers is refused at its header, so 4 comes to no word.
-pub fn video_reason(
-    offset: VideoOffset,
-    value: u32,
-    targets: &[u32],
-    firsts: &[u32],
-    seconds: &[u32],
-) -> u32
-    ensures reason { λ r. ⌜ r ≡ foundReason (held (now (targets .entry)) (now (firsts .entry)) (now (seconds .entry))) badCount (findVideo offset) value ⌝ }
-{
-    let o = offset.0;
-    match o {
-        0x2208 => judged(must_be_clear(value, 0xf800f800), true, true),
-        0x220c => judged(must_be_clear(value, 0xf800f800), true, true),
-        0x2210 => judged(must_be_clear(value, 0xffe000fc), alpha_select(value), true),
-        0x23e4..=0x23fc => scaler_reason(VideoOffset(o - 0x2000), value, firsts),
-        0x33e4..=0x33fc => scaler_reason(VideoOffset(o - 0x3000), value, seconds),
-        _ => 4,
+    if !grants::covered(spans, value / 16 % 0x2000000 * 16) {
+        return 9;
     }
-}
-
-// 3 and 4 of a run of video registers: a row of them ends where no register follows.
-fn run_reason(offset: VideoOffset, count: u32) -> u32
-    ensures reason { λ r. ⌜ r ≡ runReason offset count ⌝ }
-{
-    let found = registers::register_video(offset);
-    match found {
-        Found::Missing => 3,
-        Found::At(cell) => match count {
-            0 => 4,
-            _ => {
-                if registers::row_from(cell) < count as usize {
-                    4
-                } else {
-                    0
-                }
-            }
-        },
-    }
-}
-
-// 3 and 4 of a header. A 3D packet is a setting and 1 to 112 parameters.
-pub fn header_reason(header: u32) -> u32
-    ensures reason { λ r. ⌜ r ≡ headerReason header ⌝ }
-{
-    let offset = fields::offset(header);
-    let count = fields::count(header);
-    match offset {
-        0x043c => match count {
-            2..=113 => 0,
-            _ => 4,
-        },
-        _ => run_reason(VideoOffset(offset), count),
-    }
+    0
 }

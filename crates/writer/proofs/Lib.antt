@@ -1,4 +1,4 @@
-pub mod Named
 pub mod Writable
 pub mod Lowest
+pub mod Scalers
 pub mod Answers

@@ -1,59 +1,68 @@
 -- Whether a cell may be written, by its mark, the width of its value and the reason that speaks against it.
 -- Assumes nothing.
-use mathlib.Core.Path.{_≡_}
-use mathlib.Core.Bool.{true, false}
+use mathlib.Core.Path.{_≡_, _∙_}
+use mathlib.Core.Bool.{Bool, true, false, _&&_}
 use mathlib.Core.List.{List}
 use Prim.Native.Nat.{ℕ, _≤_, _<_, _^_}
 use native.Mathlib.Omega.{arith}
 use borrow.Author.Tests.{lt-ltb, le-ltb}
-use lib.Dec.{ltb, eqb}
-use Rattle.meaning.specs.declared.Cell.{Cell}
-use Rattle.meaning.specs.declared.SubAddress.{SubAddress}
-use Rattle.meaning.specs.declared.VideoOffset.{VideoOffset}
-use Rattle.meaning.specs.declared.Found.{Found}
-use Rattle.meaning.specs.declared.Found.the-variants.{At}
-use Rattle.meaning.specs.Registers.{find3D, findVideo}
+use lib.Dec.{T, ltb, eqb}
+use mir.Facts.{eqb-yes}
+use Rattle.laws.specs.Lists.{every, from}
+use Rattle.laws.specs.Tests.{implies}
+use Rattle.laws.proofs.Lists.{every-from}
+use Rattle.meaning.specs.Registers.{cells, cell, groups, targetGroup, stage, sample, videoRows, scaler, registerAmong, registerAt}
 use Rattle.meaning.specs.Grants.{Terms}
 use Rattle.meaning.specs.State.{valueAt, markAt}
-use Rattle.meaning.specs.Answers.{noRegister, badCount}
-use Rattle.meaning.specs.Reader.{foundReason}
+use Rattle.meaning.specs.Reader.{valueReason}
 use Rattle.meaning.specs.Writer.{writable}
-use Rattle.meaning.proofs.Table.{Of}
-use Rattle.meaning.proofs.Stored.{Wide, found-3D, found-video}
 
--- a cell that a name names: where it lies, and how wide its register is
-named-wide : (w : ℕ) {found : Found} (c : Cell) → found ≡ At c → Of (Wide w) found → Wide w c
-named-wide w c e o = rw e at o
+-- ---- how wide a cell's value is, by a computed test of each cell
 
-pub wide-3D : (t u : ℕ) (a : SubAddress) (c : Cell) → find3D t u a ≡ At c → Wide 24 c
-wide-3D t u a c e = named-wide 24 c e (found-3D t u a)
+asWide : ℕ → ℕ → Bool
+asWide w c = eqb (registerAt (cell c) .width) w
 
-pub wide-video : (o : VideoOffset) (c : Cell) → findVideo o ≡ At c → Wide 32 c
-wide-video o c e = named-wide 32 c e (found-video o)
+tested-3D : T (every (asWide 24) (from 0 84))
+unfolding asWide every from registerAt registerAmong groups targetGroup stage sample videoRows scaler
+tested-3D = tt
 
-module _ (g : Terms) (st : List ℕ) (c : Cell) where
-  pub unmarked : markAt st c ≡ 0 → writable g st c ≡ true
-  unfolding writable
+tested-video : T (every (asWide 32) (from 84 17))
+unfolding asWide every from registerAt registerAmong groups targetGroup stage sample videoRows scaler
+tested-video = tt
+
+pub wide-3D : (c : ℕ) → c < 84 → registerAt (cell c) .width ≡ 24
+unfolding asWide
+wide-3D c h = eqb-yes (every-from (asWide 24) 0 84 tested-3D c (omega arith) (omega arith))
+
+wide-video : (c : ℕ) → 84 ≤ c → c < cells → registerAt (cell c) .width ≡ 32
+unfolding asWide
+wide-video c l h = eqb-yes (every-from (asWide 32) 84 17 tested-video c l (omega arith))
+
+-- ---- a 3D cell
+
+-- what the code asks of a mark, a value and a reason
+abbrev pub Fine : ℕ → ℕ → ℕ → Bool
+Fine mark value reason = implies (ltb 0 mark) (ltb value (2 ^ 24) && eqb reason 0)
+
+module _ (mark value reason : ℕ) where
+  pub unmarked : mark ≡ 0 → true ≡ Fine mark value reason
   unmarked e = rw e
 
-  module _ (n : markAt st c ≡ 0 → ⊥) where
-    marked : ltb 0 (markAt st c) ≡ true
-    marked = lt-ltb 0 (markAt st c) (omega arith)
+  module _ (n : mark ≡ 0 → ⊥) where
+    pub too-wide : 2 ^ 24 ≤ value → false ≡ Fine mark value reason
+    too-wide l = rw (lt-ltb 0 mark (omega arith), le-ltb value (2 ^ 24) l)
 
-    pub too-wide : (w : ℕ) → Wide w c → 2 ^ w ≤ valueAt st c → writable g st c ≡ false
-    unfolding writable
-    too-wide w wide l = rw (marked, wide .1, le-ltb (valueAt st c) (2 ^ w) l)
+    pub by-reason : value < 2 ^ 24 → eqb reason 0 ≡ Fine mark value reason
+    by-reason l = rw (lt-ltb 0 mark (omega arith), lt-ltb value (2 ^ 24) l)
 
-    -- the reason, as it is told of the cell that a name names
-    by-reason : (w none : ℕ) (found : Found) → found ≡ At c → Wide w c → valueAt st c < 2 ^ w → (r : ℕ) → r ≡ foundReason g none found (valueAt st c)
-        → writable g st c ≡ eqb r 0
-    unfolding writable
-    by-reason w none found e wide l r told = let here = rw e at told in rw (here, marked, wide .1, lt-ltb (valueAt st c) (2 ^ w) l)
+-- ---- a cell of a state, whose reason is that of its register
 
-    pub by-parameter : (t u : ℕ) (a : SubAddress) → find3D t u a ≡ At c → valueAt st c < 2 ^ 24 → (r : ℕ)
-        → r ≡ foundReason g noRegister (find3D t u a) (valueAt st c) → writable g st c ≡ eqb r 0
-    by-parameter t u a e l r told = by-reason 24 noRegister (find3D t u a) e (wide-3D t u a c e) l r told
+module _ (g : Terms) (st : List ℕ) (c : ℕ) {reason : ℕ} (e : reason ≡ valueReason g (registerAt (cell c)) (valueAt st (cell c))) where
+  pub of-3D : c < 84 → {r : Bool} → r ≡ Fine (markAt st (cell c)) (valueAt st (cell c)) reason → r ≡ writable g st (cell c)
+  unfolding writable
+  of-3D h f = f ∙ rw (e, wide-3D c h)
 
-    pub by-video : (o : VideoOffset) → findVideo o ≡ At c → valueAt st c < 2 ^ 32 → (r : ℕ)
-        → r ≡ foundReason g badCount (findVideo o) (valueAt st c) → writable g st c ≡ eqb r 0
-    by-video o e l r told = by-reason 32 badCount (findVideo o) e (wide-video o c e) l r told
+  -- a word is always narrow enough
+  pub of-video : 84 ≤ c → c < cells → valueAt st (cell c) < 2 ^ 32 → implies (ltb 0 (markAt st (cell c))) (eqb reason 0) ≡ writable g st (cell c)
+  unfolding writable
+  of-video l h v = rw (e, wide-video c l h, lt-ltb (valueAt st (cell c)) (2 ^ 32) v)

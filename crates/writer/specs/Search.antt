@@ -1,11 +1,10 @@
--- A search that tells the cell it found, or the end of the cells.
+-- A search that tells the cell it found, or what the rest told.
 -- Assumes nothing.
 use Rattle.meaning.specs.declared.Cell.{Cell}
 use Rattle.meaning.specs.declared.Found.{Found}
 use Rattle.meaning.specs.declared.Found.the-variants.{At, Missing}
-use Rattle.meaning.specs.Registers.{cells, cell}
 
--- the cell that was found; where there is none, the number past the last cell
-abbrev pub orEnd : Found → Cell
-orEnd (At c) = c
-orEnd Missing = cell cells
+-- the cell that was found; where there is none, the one that is told in its place
+abbrev pub orRest : Found → Cell → Cell
+orRest (At c) rest = c
+orRest Missing rest = rest

@@ -1,159 +1,216 @@
 // The writer: a state as the batch that reaches it from the empty state.
 ghost use mathlib.Core.Path.{_≡_};
-ghost use mathlib.Core.Bool.{cond};
-ghost use Prim.Native.Nat.{_+_, _*_, _<_};
-ghost use lib.Dec.{T, leb, eqb};
+ghost use mathlib.Core.Bool.{_&&_, cond};
+ghost use Prim.Native.Nat.{ℕ, _+_, _*_, _^_, _≤_, _<_};
+ghost use lib.Dec.{T, leb, ltb, eqb};
 ghost use lib.ListN.{length};
-ghost use Rattle.meaning.specs.Registers.{cells, find3D, findVideo};
-ghost use Rattle.meaning.specs.Grants.{grantsFine, termsOf};
-ghost use Rattle.meaning.specs.State.{stateWords};
+ghost use Rattle.laws.specs.Tests.{implies};
+ghost use Rattle.meaning.specs.Registers.{cells, cell};
+ghost use Rattle.meaning.specs.Grants.{Terms, grantsFine, termsOf};
+ghost use Rattle.meaning.specs.State.{stateWords, markAt};
 ghost use Rattle.meaning.specs.Answers as answers;
 ghost use Rattle.meaning.specs.Writer.{writable, lowestBad, exceptAt, writeAnswer, writeLeaves};
 ghost use Rattle.grants.specs.Spans.{held};
+ghost use Rattle.verdicts.specs.Reasons.{Spanned, Scaler};
 ghost use Rattle.emitter.specs.Emitted.{many};
-ghost use Rattle.writer.specs.Search.{orEnd};
+ghost use Rattle.writer.specs.Search.{orRest};
 use meaning::Answer;
 use meaning::Cell;
 use meaning::Found;
-use meaning::SubAddress;
-use meaning::VideoOffset;
 
-// A 3D cell may be written: it is unmarked, or its value is 24 bits wide and nothing speaks against it. The cell's name is a literal
-// at each call, so that the compiler leaves of the verdict only what that register asks for. Here and below `t`, `f` and `s` are the
-// spans of the target, of the first scaler and of the second.
-fn fine(
-    state: &[u32],
-    cell: Cell,
-    ty: u32,
-    sub: u32,
-    address: SubAddress,
-    t: &[u32],
-    f: &[u32],
-    s: &[u32],
-) -> bool
-    requires whole { ⌜ length (now state) ≡ stateWords ⌝ }
-    requires named { ⌜ find3D ty sub address ≡ Found.At cell ⌝ }
-    ensures fine { λ r. ⌜ r ≡ writable (held (now (t .entry)) (now (f .entry)) (now (s .entry))) (now (state .entry)) cell ⌝ }
+// A 3D cell may be written: it is unmarked, or its value is 24 bits wide and nothing speaks against it.
+fn fine(mark: u32, value: u32, reason: u32) -> bool
+    ensures fine { λ r. ⌜ r ≡ implies (ltb 0 mark) (ltb value (2 ^ 24) && eqb reason 0) ⌝ }
 {
-    let c = cell.0;
-    if state[101 + c] == 0 {
+    if mark == 0 {
         return true;
     }
-    let value = state[c];
     if 0xffffff < value {
         return false;
     }
-    verdicts::parameter_reason(ty, sub, address, value, t, f, s) == 0
+    reason == 0
+}
+
+// The same for cell 1, whose address is asked for only where the value is narrow. Here and below `t`, `f` and `s` are the spans of the
+// target, of the first scaler and of the second.
+fn target_fine(state: &[u32], t: &[u32]) -> bool
+    requires whole { ⌜ length (now state) ≡ stateWords ⌝ }
+    ensures fine { λ r. ⌜ ((g : Terms) → Spanned g 1 (now (t .entry)) → r ≡ writable g (now (state .entry)) (cell 1)) ⌝ }
+{
+    if state[102] == 0 {
+        return true;
+    }
+    let v = state[1];
+    if 0xffffff < v {
+        return false;
+    }
+    verdicts::target_address_reason(v, t) == 0
 }
 
 // The lowest of the cells of 01.00 that may not be written.
-fn bad_in_target(state: &[u32], t: &[u32], f: &[u32], s: &[u32]) -> Found
+fn bad_in_target(state: &[u32], t: &[u32]) -> Found
     requires whole { ⌜ length (now state) ≡ stateWords ⌝ }
-    ensures lowest { λ r. ⌜ r ≡ lowestBad (held (now (t .entry)) (now (f .entry)) (now (s .entry))) (now (state .entry)) 0 4 ⌝ }
+    ensures lowest { λ r. ⌜ ((g : Terms) → Spanned g 1 (now (t .entry)) → r ≡ lowestBad g (now (state .entry)) 0 4) ⌝ }
 {
-    if !fine(state, Cell(0), 0x01, 0x00, SubAddress(0x3f), t, f, s) {
+    if !fine(
+        state[101],
+        state[0],
+        verdicts::alpha_constants_reason(state[0]),
+    ) {
         return Found::At(Cell(0));
     }
-    if !fine(state, Cell(1), 0x01, 0x00, SubAddress(0x50), t, f, s) {
+    if !target_fine(state, t) {
         return Found::At(Cell(1));
     }
-    if !fine(state, Cell(2), 0x01, 0x00, SubAddress(0x51), t, f, s) {
+    if !fine(state[103], state[2], verdicts::location_reason(state[2])) {
         return Found::At(Cell(2));
     }
-    if !fine(state, Cell(3), 0x01, 0x00, SubAddress(0x52), t, f, s) {
+    if !fine(state[104], state[3], verdicts::format_reason(state[3])) {
         return Found::At(Cell(3));
     }
     Found::Missing
 }
 
 // The same for 02.0n,
-fn bad_in_stage(state: &[u32], n: usize, t: &[u32], f: &[u32], s: &[u32]) -> Found
+fn bad_in_stage(state: &[u32], n: usize) -> Found
     requires whole { ⌜ length (now state) ≡ stateWords ⌝ }
     requires stage { ⌜ n < many ⌝ }
-    ensures lowest { λ r. ⌜ r ≡ lowestBad (held (now (t .entry)) (now (f .entry)) (now (s .entry))) (now (state .entry)) (4 + 2 * n) 2 ⌝ }
+    ensures lowest { λ r. ⌜ ((g : Terms) → r ≡ lowestBad g (now (state .entry)) (4 + 2 * n) 2) ⌝ }
 {
-    let sub = n as u32;
     let one = 4 + 2 * n;
     let two = 5 + 2 * n;
-    if !fine(state, Cell(one), 0x02, sub, SubAddress(0x50), t, f, s) {
+    if !fine(
+        state[101 + one],
+        state[one],
+        verdicts::stage_reason(state[one]),
+    ) {
         return Found::At(Cell(one));
     }
-    if !fine(state, Cell(two), 0x02, sub, SubAddress(0x51), t, f, s) {
+    if !fine(
+        state[101 + two],
+        state[two],
+        verdicts::stage_reason(state[two]),
+    ) {
         return Found::At(Cell(two));
     }
     Found::Missing
 }
 
 // and for 02.2n.
-fn bad_in_sample(state: &[u32], n: usize, t: &[u32], f: &[u32], s: &[u32]) -> Found
+fn bad_in_sample(state: &[u32], n: usize) -> Found
     requires whole { ⌜ length (now state) ≡ stateWords ⌝ }
     requires sample { ⌜ n < many ⌝ }
-    ensures lowest { λ r. ⌜ r ≡ lowestBad (held (now (t .entry)) (now (f .entry)) (now (s .entry))) (now (state .entry)) (36 + 3 * n) 3 ⌝ }
+    ensures lowest { λ r. ⌜ ((g : Terms) → r ≡ lowestBad g (now (state .entry)) (36 + 3 * n) 3) ⌝ }
 {
-    let sub = 0x20 + n as u32;
     let one = 36 + 3 * n;
     let two = 37 + 3 * n;
     let three = 38 + 3 * n;
-    if !fine(state, Cell(one), 0x02, sub, SubAddress(0x30), t, f, s) {
+    if !fine(
+        state[101 + one],
+        state[one],
+        verdicts::levels_reason(state[one]),
+    ) {
         return Found::At(Cell(one));
     }
-    if !fine(state, Cell(two), 0x02, sub, SubAddress(0x31), t, f, s) {
+    if !fine(
+        state[101 + two],
+        state[two],
+        verdicts::filters_reason(state[two]),
+    ) {
         return Found::At(Cell(two));
     }
-    if !fine(state, Cell(three), 0x02, sub, SubAddress(0x32), t, f, s) {
+    if !fine(
+        state[101 + three],
+        state[three],
+        verdicts::mapping_reason(state[three]),
+    ) {
         return Found::At(Cell(three));
     }
     Found::Missing
 }
 
 // The lowest bad cell, once a video cell stands before the rest: that cell, if its value is refused. A word is always narrow enough.
-fn lowest_with(
-    state: &[u32],
-    cell: Cell,
-    offset: VideoOffset,
-    t: &[u32],
-    f: &[u32],
-    s: &[u32],
-    rest: Cell,
-) -> Cell
+fn lowest_with(state: &[u32], cell: Cell, reason: u32, rest: Cell) -> Cell
     requires whole { ⌜ length (now state) ≡ stateWords ⌝ }
-    requires named { ⌜ findVideo offset ≡ Found.At cell ⌝ }
-    ensures lowest { λ r. ⌜ r ≡ cond (writable (held (now (t .entry)) (now (f .entry)) (now (s .entry))) (now (state .entry)) cell) rest cell ⌝ }
+    requires inside { ⌜ cell .0 < cells ⌝ }
+    ensures lowest { λ r. ⌜ r ≡ cond (implies (ltb 0 (markAt (now (state .entry)) cell)) (eqb reason 0)) rest cell ⌝ }
 {
     let c = cell.0;
     if state[101 + c] == 0 {
         return rest;
     }
-    if verdicts::video_reason(offset, state[c], t, f, s) == 0 {
+    if reason == 0 {
         return rest;
     }
     cell
 }
 
-// The lowest bad video cell, or 101. From the last cell to the first, so that what is found last is the lowest. A number is handed
-// on in one register, and an enum is not.
-fn bad_in_video(state: &[u32], t: &[u32], f: &[u32], s: &[u32]) -> Cell
+// The same for the seven cells of a scaler. From the last cell to the first, so that what is found last is the lowest. A number is
+// handed on in one register, and an enum is not.
+fn bad_in_scaler(state: &[u32], first: usize, spans: &[u32], rest: Cell) -> Cell
     requires whole { ⌜ length (now state) ≡ stateWords ⌝ }
-    ensures lowest { λ r. ⌜ r ≡ orEnd (lowestBad (held (now (t .entry)) (now (f .entry)) (now (s .entry))) (now (state .entry)) 84 17) ⌝ }
+    requires inside { ⌜ first + 7 ≤ cells ⌝ }
+    ensures lowest { λ r. ⌜ ((g : Terms) (role : ℕ) → Scaler first role → Spanned g role (now (spans .entry)) → r ≡ orRest (lowestBad g (now (state .entry)) first 7) rest) ⌝ }
 {
-    let bad = Cell(101);
-    let bad = lowest_with(state, Cell(100), VideoOffset(0x33fc), t, f, s, bad);
-    let bad = lowest_with(state, Cell(99), VideoOffset(0x33f8), t, f, s, bad);
-    let bad = lowest_with(state, Cell(98), VideoOffset(0x33f4), t, f, s, bad);
-    let bad = lowest_with(state, Cell(97), VideoOffset(0x33f0), t, f, s, bad);
-    let bad = lowest_with(state, Cell(96), VideoOffset(0x33ec), t, f, s, bad);
-    let bad = lowest_with(state, Cell(95), VideoOffset(0x33e8), t, f, s, bad);
-    let bad = lowest_with(state, Cell(94), VideoOffset(0x33e4), t, f, s, bad);
-    let bad = lowest_with(state, Cell(93), VideoOffset(0x23fc), t, f, s, bad);
-    let bad = lowest_with(state, Cell(92), VideoOffset(0x23f8), t, f, s, bad);
-    let bad = lowest_with(state, Cell(91), VideoOffset(0x23f4), t, f, s, bad);
-    let bad = lowest_with(state, Cell(90), VideoOffset(0x23f0), t, f, s, bad);
-    let bad = lowest_with(state, Cell(89), VideoOffset(0x23ec), t, f, s, bad);
-    let bad = lowest_with(state, Cell(88), VideoOffset(0x23e8), t, f, s, bad);
-    let bad = lowest_with(state, Cell(87), VideoOffset(0x23e4), t, f, s, bad);
-    let bad = lowest_with(state, Cell(86), VideoOffset(0x2210), t, f, s, bad);
-    let bad = lowest_with(state, Cell(85), VideoOffset(0x220c), t, f, s, bad);
-    lowest_with(state, Cell(84), VideoOffset(0x2208), t, f, s, bad)
+    let bad = lowest_with(
+        state,
+        Cell(first + 6),
+        verdicts::scaler_reason(6, state[first + 6], spans),
+        rest,
+    );
+    let bad = lowest_with(
+        state,
+        Cell(first + 5),
+        verdicts::scaler_reason(5, state[first + 5], spans),
+        bad,
+    );
+    let bad = lowest_with(
+        state,
+        Cell(first + 4),
+        verdicts::scaler_reason(4, state[first + 4], spans),
+        bad,
+    );
+    let bad = lowest_with(
+        state,
+        Cell(first + 3),
+        verdicts::scaler_reason(3, state[first + 3], spans),
+        bad,
+    );
+    let bad = lowest_with(
+        state,
+        Cell(first + 2),
+        verdicts::scaler_reason(2, state[first + 2], spans),
+        bad,
+    );
+    let bad = lowest_with(
+        state,
+        Cell(first + 1),
+        verdicts::scaler_reason(1, state[first + 1], spans),
+        bad,
+    );
+    lowest_with(
+        state,
+        Cell(first),
+        verdicts::scaler_reason(0, state[first], spans),
+        bad,
+    )
+}
+
+// The lowest bad video cell, or 101.
+fn bad_in_video(state: &[u32], f: &[u32], s: &[u32]) -> Cell
+    requires whole { ⌜ length (now state) ≡ stateWords ⌝ }
+    ensures lowest { λ r. ⌜ ((g : Terms) → Spanned g 2 (now (f .entry)) → Spanned g 3 (now (s .entry)) → r ≡ orRest (lowestBad g (now (state .entry)) 84 17) (cell cells)) ⌝ }
+{
+    let bad = bad_in_scaler(state, 94, s, Cell(101));
+    let bad = bad_in_scaler(state, 87, f, bad);
+    let bad = lowest_with(
+        state,
+        Cell(86),
+        verdicts::alpha_select_reason(state[86]),
+        bad,
+    );
+    let bad = lowest_with(state, Cell(85), verdicts::overlay_reason(state[85]), bad);
+    lowest_with(state, Cell(84), verdicts::overlay_reason(state[84]), bad)
 }
 
 // The lowest cell that may not be written.
@@ -161,14 +218,14 @@ fn lowest_bad(state: &[u32], t: &[u32], f: &[u32], s: &[u32]) -> Found
     requires whole { ⌜ length (now state) ≡ stateWords ⌝ }
     ensures lowest { λ r. ⌜ r ≡ lowestBad (held (now (t .entry)) (now (f .entry)) (now (s .entry))) (now (state .entry)) 0 cells ⌝ }
 {
-    let target = bad_in_target(state, t, f, s);
+    let target = bad_in_target(state, t);
     match target {
         Found::At(cell) => return Found::At(cell),
         Found::Missing => {}
     }
     let mut n = 0;
     while n < 16 {
-        let stage = bad_in_stage(state, n, t, f, s);
+        let stage = bad_in_stage(state, n);
         match stage {
             Found::At(cell) => return Found::At(cell),
             Found::Missing => {}
@@ -177,14 +234,14 @@ fn lowest_bad(state: &[u32], t: &[u32], f: &[u32], s: &[u32]) -> Found
     }
     let mut m = 0;
     while m < 16 {
-        let sample = bad_in_sample(state, m, t, f, s);
+        let sample = bad_in_sample(state, m);
         match sample {
             Found::At(cell) => return Found::At(cell),
             Found::Missing => {}
         }
         m += 1;
     }
-    let video = bad_in_video(state, t, f, s);
+    let video = bad_in_video(state, f, s);
     if video.0 < 101 {
         return Found::At(video);
     }

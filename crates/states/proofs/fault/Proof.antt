@@ -1,17 +1,18 @@
--- Each way out is a branch of the definition.
+-- One less than the mark is all ones, or 0, or the mark is too great.
 -- Assumes nothing.
-use Rattle.laws.proofs.Arms.{tests}
-use Rattle.states.specs.Marks.{faultOf}
+use native.Mathlib.Omega.{arith}
+use borrow.Author.Needs.{needs}
+use Rattle.states.proofs.Formed.{fault-tells}
 use Rattle.states.proofs.fault.Statement.{statement}
 use Rattle.states.proofs.fault.Tie as tie
 
-returns : tie.Need-returns
-unfolding faultOf
-returns c = search tests
+wrapping-sub-u32-requires : tie.Need-wrapping-sub-u32-requires
+wrapping-sub-u32-requires c κs = search needs
 
-returns-2 : tie.Need-returns-2
-unfolding faultOf
-returns-2 c = search tests
+returns : tie.Need-returns
+returns c =
+    let a = c .before .args in
+    fault-tells (a .value) (a .mark) (c .wrapping-sub-u32 .result) (omega arith) (omega arith) (c .wrapping-sub-u32 .ensures)
 
 pub fault-spec : {M : Type 1} → statement M
-fault-spec = tie.close (tie.spec returns returns-2)
+fault-spec = tie.close (tie.spec wrapping-sub-u32-requires returns)

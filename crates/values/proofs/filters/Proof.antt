@@ -1,8 +1,12 @@
 -- `values::filters` meets its contract: the tests are those of the definition, in its order.
 -- Assumes nothing.
+use mathlib.Core.Path.{_≡_}
+use Prim.Native.Nat.{ℕ, _/_}
 use native.Mathlib.Nat.{div-one}
-use Rattle.meaning.specs.Registers.{filters}
-use Rattle.values.proofs.Codes.{row}
+use Rattle.laws.proofs.Arms.{told-true}
+use Rattle.meaning.specs.Words.{bits}
+use Rattle.meaning.specs.Registers.{bothTwo, filters}
+use Rattle.values.proofs.Codes.{both-low, row}
 use borrow.Author.Needs.{needs}
 use Rattle.values.proofs.filters.Statement.{statement}
 use Rattle.values.proofs.filters.Tie as tie
@@ -51,7 +55,14 @@ both-two-requires c κs = search needs
 
 returns-7 : tie.Need-returns-7
 unfolding filters
-returns-7 c = simp div-one (search row depth 10 fits 20000)
+returns-7 c =
+    let in-t = c .before .before .before .before .before in
+    let in-s = in-t .before .before .before .before in
+    let v : ℕ = in-s .before .before .before .args .value in
+    let both : c .both-two .result ≡ bothTwo (bits 15 13 v) (bits 9 7 v) =
+    both-low (v / 0x2000) (v / 0x80) (told-true (in-s .before .filter-code .ensures) (in-s .if2 .left)) (told-true (in-t .before .filter-code3 .ensures) (in-t .if4 .left)) (c .both-two .ensures)
+    in
+    simp div-one (search (both, row) depth 10 fits 20000)
 
 pub filters-spec : {M : Type 1} → statement M
 filters-spec =

@@ -7,6 +7,7 @@ use borrow.Author.Needs.{needs}
 use Rattle.meaning.specs.Registers.{cells}
 use Rattle.meaning.specs.Writer.{lowestBad}
 use Rattle.grants.specs.Spans.{held}
+use Rattle.grants.proofs.Spans.{held-1, held-2, held-3}
 use Rattle.emitter.specs.Emitted.{many}
 use Rattle.writer.proofs.Lowest.{Left, all-left, nothing, went, stopped, last-part, found-video, none-video}
 use Rattle.writer.proofs.lowest_bad.Statement.{statement}
@@ -35,7 +36,7 @@ returns c =
     let k = c .before in
     let t = k .before .before in
     let a = t .before .before .before .before .before .args in
-    stopped (all-left (held (a .t .now) (a .f .now) (a .s .now)) (a .state .now) 0 cells) 4 (omega arith) _ (sym (t .bad-in-target .ensures) ∙ k .target .given .1)
+    stopped (all-left (held (a .t .now) (a .f .now) (a .s .now)) (a .state .now) 0 cells) 4 (omega arith) _ (sym (t .bad-in-target .ensures _ (held-1 _ _ _)) ∙ k .target .given .1)
 
 enum-told : tie.Need-enum-told Inv-loop μ-loop Inv-loop2 μ-loop2
 enum-told c = search needs
@@ -44,7 +45,7 @@ loop-holds : tie.Need-loop-holds Inv-loop μ-loop Inv-loop2 μ-loop2
 loop-holds c =
     let t = c .before .before in
     let a = t .before .before .before .before .before .args in
-    (omega arith, went (all-left (held (a .t .now) (a .f .now) (a .s .now)) (a .state .now) 0 cells) 4 (4 + 2 * 0) (omega arith) (omega arith) (sym (t .bad-in-target .ensures) ∙ c .enum-told .given .1))
+    (omega arith, went (all-left (held (a .t .now) (a .f .now) (a .s .now)) (a .state .now) 0 cells) 4 (4 + 2 * 0) (omega arith) (omega arith) (sym (t .bad-in-target .ensures _ (held-1 _ _ _)) ∙ c .enum-told .given .1))
 
 bad-in-stage-requires : tie.Need-bad-in-stage-requires Inv-loop μ-loop Inv-loop2 μ-loop2
 bad-in-stage-requires c κs = (c .before .before .before .before .before .before .before .before .before .pre, omega arith)
@@ -56,7 +57,7 @@ returns-2 : tie.Need-returns-2 Inv-loop μ-loop Inv-loop2 μ-loop2
 returns-2 c =
     let k = c .before in
     let b = k .before .before in
-    stopped (b .before .before .loop .inv .1) 2 (omega arith) _ (sym (b .bad-in-stage .ensures) ∙ k .stage .given .1)
+    stopped (b .before .before .loop .inv .1) 2 (omega arith) _ (sym (b .bad-in-stage .ensures _) ∙ k .stage .given .1)
 
 enum-told-2 : tie.Need-enum-told-2 Inv-loop μ-loop Inv-loop2 μ-loop2
 enum-told-2 c = search needs
@@ -71,7 +72,7 @@ loop-again : tie.Need-loop-again Inv-loop μ-loop Inv-loop2 μ-loop2
 loop-again c =
     let b = c .before .before in
     let l = b .before .before in
-    (omega arith, went (l .loop .inv .1) 2 (4 + 2 * (l .loop .n + 1)) (omega arith) (omega arith) (sym (b .bad-in-stage .ensures) ∙ c .enum-told2 .given .1))
+    (omega arith, went (l .loop .inv .1) 2 (4 + 2 * (l .loop .n + 1)) (omega arith) (omega arith) (sym (b .bad-in-stage .ensures _) ∙ c .enum-told2 .given .1))
 
 loop2-holds : tie.Need-loop2-holds Inv-loop μ-loop Inv-loop2 μ-loop2
 loop2-holds c =
@@ -88,7 +89,7 @@ returns-3 : tie.Need-returns-3 Inv-loop μ-loop Inv-loop2 μ-loop2
 returns-3 c =
     let k = c .before in
     let b = k .before .before in
-    stopped (b .before .before .loop2 .inv .1) 3 (omega arith) _ (sym (b .bad-in-sample .ensures) ∙ k .sample .given .1)
+    stopped (b .before .before .loop2 .inv .1) 3 (omega arith) _ (sym (b .bad-in-sample .ensures _) ∙ k .sample .given .1)
 
 enum-told-3 : tie.Need-enum-told-3 Inv-loop μ-loop Inv-loop2 μ-loop2
 enum-told-3 c = search needs
@@ -103,7 +104,7 @@ loop2-again : tie.Need-loop2-again Inv-loop μ-loop Inv-loop2 μ-loop2
 loop2-again c =
     let b = c .before .before in
     let l = b .before .before in
-    (omega arith, went (l .loop2 .inv .1) 3 (36 + 3 * (l .loop2 .m + 1)) (omega arith) (omega arith) (sym (b .bad-in-sample .ensures) ∙ c .enum-told3 .given .1))
+    (omega arith, went (l .loop2 .inv .1) 3 (36 + 3 * (l .loop2 .m + 1)) (omega arith) (omega arith) (sym (b .bad-in-sample .ensures _) ∙ c .enum-told3 .given .1))
 
 bad-in-video-requires : tie.Need-bad-in-video-requires Inv-loop μ-loop Inv-loop2 μ-loop2
 bad-in-video-requires c κs = c .before .before .before .before .before .before .before .before .before .before .before .pre
@@ -114,10 +115,10 @@ video-left : (c : tie.After-loop2 Inv-loop μ-loop Inv-loop2 μ-loop2) → let a
 video-left c = let l = c .before in last-part (went (l .loop2 .inv .1) 0 84 (omega arith) (omega arith) (nothing _ _ (36 + 3 * l .loop2 .m))) 17 (omega arith)
 
 returns-4 : tie.Need-returns-4 Inv-loop μ-loop Inv-loop2 μ-loop2
-returns-4 c = let v = c .before .before in found-video _ _ (v .bad-in-video .ensures) (c .if1 .taken) ∙ video-left (v .before)
+returns-4 c = let v = c .before .before in found-video _ _ (v .bad-in-video .ensures _ (held-2 _ _ _) (held-3 _ _ _)) (c .if1 .taken) ∙ video-left (v .before)
 
 returns-5 : tie.Need-returns-5 Inv-loop μ-loop Inv-loop2 μ-loop2
-returns-5 c = let v = c .before .before in none-video _ _ (v .bad-in-video .ensures) (c .if1 .left) ∙ video-left (v .before)
+returns-5 c = let v = c .before .before in none-video _ _ (v .bad-in-video .ensures _ (held-2 _ _ _) (held-3 _ _ _)) (c .if1 .left) ∙ video-left (v .before)
 
 pub lowest-bad-spec : {M : Type 1} → statement M
 lowest-bad-spec =

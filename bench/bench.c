@@ -1,0 +1,318 @@
+/*
+ * Calls one of the three calls a given number of times on one of the bench's inputs: bench WHO LINE TIMES. WHO is `ours` (the
+ * archive), `careful` (careful.c), `tuned` (tuned.c) or `nothing` (functions that return at once, so that what the loop itself needs
+ * can be taken off). bench/run counts the instructions from outside.
+ */
+#include "../include/irangelda.h"
+#include "careful.h"
+#include "tuned.h"
+#include <stdio.h>
+#include <stdlib.h>
+#include <string.h>
+
+typedef uint64_t reads(const uint8_t *, size_t, const uint8_t *, size_t, uint8_t *, size_t);
+typedef uint64_t writes(const uint8_t *, size_t, const uint8_t *, size_t, uint8_t *, size_t);
+typedef uint64_t lists(const uint8_t *, size_t, uint8_t *, size_t);
+
+struct calls {
+    const char *who;
+    reads *read;
+    writes *write;
+    lists *list;
+};
+
+static uint64_t nothing_of_six(const uint8_t *a, size_t a_len, const uint8_t *b, size_t b_len, uint8_t *c, size_t c_len)
+{
+    (void)a, (void)a_len, (void)b, (void)b_len, (void)c, (void)c_len;
+    return 0;
+}
+
+static uint64_t nothing_of_four(const uint8_t *a, size_t a_len, uint8_t *b, size_t b_len)
+{
+    (void)a, (void)a_len, (void)b, (void)b_len;
+    return 0;
+}
+
+static const struct calls all_calls[] = {
+    { "ours", irangelda_read, irangelda_write, irangelda_list },
+    { "careful", careful_read, careful_write, careful_list },
+    { "tuned", tuned_read, tuned_write, tuned_list },
+    { "nothing", nothing_of_six, nothing_of_six, nothing_of_four }
+};
+
+enum { CELLS = IRANGELDA_CELLS, LONG_WORDS = 16384 };
+
+/* Aligned alike in every build, so that a count does not hang on where the linker puts things. */
+#define LENT _Alignas(64) static
+
+LENT uint8_t batch[4 * LONG_WORDS], grants[IRANGELDA_GRANTS_BYTES_MAX], state[IRANGELDA_STATE_BYTES], out[4096];
+LENT uint8_t first_state[IRANGELDA_STATE_BYTES];
+static size_t batch_words, grant_count;
+
+static void put_word(uint8_t *bytes, size_t i, uint32_t word)
+{
+    for (int k = 0; k < 4; k++)
+        bytes[4 * i + (size_t)k] = (uint8_t)(word >> 8 * k);
+}
+
+/* ---- grants */
+
+static void add_grant(uint32_t role, uint32_t start, uint32_t length, uint32_t reach)
+{
+    put_word(grants, 4 * grant_count, role);
+    put_word(grants, 4 * grant_count + 1, start);
+    put_word(grants, 4 * grant_count + 2, length);
+    put_word(grants, 4 * grant_count + 3, reach);
+    grant_count++;
+}
+
+static void add_matching_target(void)
+{
+    add_grant(1, 0x00100000, 0x00080000, 0x00080000);
+}
+
+/* Grants of the first so many roles in turn, of memory that no batch here names. */
+static void add_others(int how_many, uint32_t roles)
+{
+    for (int i = 0; i < how_many; i++)
+        add_grant(1 + (uint32_t)i % roles, 0x10000000 + 0x00100000 * (uint32_t)i, 0x00080000, 0x00001000);
+}
+
+static void add_matching(void)
+{
+    add_matching_target();
+    add_grant(2, 0x00200000, 0x00080000, 0x00001000);
+    add_grant(3, 0x00300000, 0x00080000, 0x00001000);
+}
+
+/* ---- batches and states */
+
+static void add_word(uint32_t word)
+{
+    put_word(batch, batch_words++, word);
+}
+
+/* A value that the cell may hold; the addresses are those that add_matching grants. */
+static uint32_t value_for(unsigned cell)
+{
+    static const uint32_t of_target[4] = { 0x400400, 0x001000, 0xc00000, 0x990000 };
+    static const uint32_t of_sample[3] = { 0x3ff2cb, 0x104104, 0x0900ff };
+    static const uint32_t of_video[17] = {
+        0x07ff07ff, 0x01230456, 0x001fff02,
+        0x89001f01, 0x9001ffff, 0xc0200000, 0x00201000, 0x00003ff0, 0xf2133ff0, 0x00202000,
+        0x89001f01, 0x9001ffff, 0xc0300000, 0x00301000, 0x00003ff0, 0xf2133ff0, 0x00302000
+    };
+    if (cell < 4)
+        return of_target[cell];
+    if (cell < 36)
+        return 0x001234 + cell;
+    return cell < 84 ? of_sample[(cell - 36) % 3] : of_video[cell - 84];
+}
+
+static void full_state(uint8_t *bytes)
+{
+    for (unsigned cell = 0; cell < CELLS; cell++) {
+        put_word(bytes, cell, value_for(cell));
+        put_word(bytes, CELLS + cell, 1);
+    }
+}
+
+static void add_k1(void)
+{
+    add_word(0x0002043c);
+    add_word(0x00010000);
+    add_word(0x50001000);
+}
+
+/* A 3D packet of `count` parameters that go through the `size` registers of a group in turn. */
+static void add_3d(uint32_t setting, unsigned cell, const uint8_t *sub_addresses, unsigned size, unsigned count)
+{
+    add_word((count + 1) << 16 | 0x043c);
+    add_word(setting);
+    for (unsigned i = 0; i < count; i++)
+        add_word((uint32_t)sub_addresses[i % size] << 24 | value_for(cell + i % size));
+}
+
+static void add_target(unsigned count)
+{
+    static const uint8_t sub_addresses[4] = { 0x3f, 0x50, 0x51, 0x52 };
+    add_3d(0x00010000, 0, sub_addresses, 4, count);
+}
+
+static void add_stage(unsigned n, unsigned count)
+{
+    static const uint8_t sub_addresses[2] = { 0x50, 0x51 };
+    add_3d(0x00020000 | n << 24, 4 + 2 * n, sub_addresses, 2, count);
+}
+
+static void add_sample(unsigned n, unsigned count)
+{
+    static const uint8_t sub_addresses[3] = { 0x30, 0x31, 0x32 };
+    add_3d(0x20020000 | n << 24, 36 + 3 * n, sub_addresses, 3, count);
+}
+
+static void add_run(uint32_t offset, unsigned cell, unsigned count)
+{
+    add_word(count << 16 | offset);
+    for (unsigned i = 0; i < count; i++)
+        add_word(value_for(cell + i));
+}
+
+static uint32_t offset_of(unsigned cell)
+{
+    return cell < 87 ? 0x2208 + 4 * (cell - 84) : cell < 94 ? 0x23e4 + 4 * (cell - 87) : 0x33e4 + 4 * (cell - 94);
+}
+
+/* The words that the writer gives for a full state. */
+static void add_full(void)
+{
+    add_target(4);
+    for (unsigned n = 0; n < 16; n++)
+        add_stage(n, 2);
+    for (unsigned n = 0; n < 16; n++)
+        add_sample(n, 3);
+    for (unsigned cell = 84; cell < CELLS; cell++)
+        add_run(offset_of(cell), cell, 1);
+}
+
+/* Packets of every kind: 49 words. */
+static void add_mixed(unsigned turn)
+{
+    unsigned n = turn % 16;
+    add_target(4);
+    add_stage(n, 2);
+    add_stage((n + 5) % 16, 2);
+    add_sample(n, 3);
+    add_sample((n + 3) % 16, 6);
+    add_run(0x2208, 84, 3);
+    add_run(0x23e4, 87, 7);
+    add_run(0x33ec, 96, 5);
+    add_run(0x23f0, 90, 1);
+    add_run(0x33e4, 94, 1);
+}
+
+/* As many mixed packets as fit, then stages until the length is exact. */
+static void add_long(void)
+{
+    for (unsigned turn = 0; LONG_WORDS - batch_words >= 64; turn++)
+        add_mixed(turn);
+    while (LONG_WORDS - batch_words > 6)
+        add_stage(1, 1);
+    add_stage(2, (unsigned)(LONG_WORDS - batch_words) - 2);
+}
+
+/* ---- the lines of the table */
+
+enum kind { READ, WRITE, LIST };
+
+struct line {
+    const char *name;
+    enum kind kind;
+    void (*prepare)(void);
+};
+
+static void k1_with_1(void)
+{
+    add_k1();
+    add_matching_target();
+}
+
+static void k1_with_64(void)
+{
+    add_k1();
+    add_others(63, 1); /* all of the target's role, so that each is asked before the match */
+    add_matching_target();
+}
+
+static void full_with_3(void)
+{
+    add_full();
+    full_state(first_state);
+    add_matching();
+}
+
+static void full_with_64(void)
+{
+    add_full();
+    full_state(first_state);
+    add_others(61, 3);
+    add_matching();
+}
+
+static void read_full_with_3(void)
+{
+    full_with_3();
+    memset(first_state, 0, sizeof first_state);
+}
+
+static void read_full_with_64(void)
+{
+    full_with_64();
+    memset(first_state, 0, sizeof first_state);
+}
+
+static void long_with_3(void)
+{
+    add_long();
+    add_matching();
+}
+
+static const struct line lines[] = {
+    { "read-k1-1", READ, k1_with_1 },
+    { "read-k1-64", READ, k1_with_64 },
+    { "read-full-3", READ, read_full_with_3 },
+    { "read-full-64", READ, read_full_with_64 },
+    { "read-long", READ, long_with_3 },
+    { "write-full-3", WRITE, full_with_3 },
+    { "write-full-64", WRITE, full_with_64 },
+    { "list-full", LIST, full_with_3 }
+};
+
+static uint64_t call(const struct calls *calls, enum kind kind)
+{
+    memcpy(state, first_state, sizeof state);
+    switch (kind) {
+    case READ:
+        return calls->read(batch, 4 * batch_words, grants, 16 * grant_count, state, sizeof state);
+    case WRITE:
+        return calls->write(state, sizeof state, grants, 16 * grant_count, out, IRANGELDA_WRITE_BYTES_ENOUGH);
+    default:
+        return calls->list(state, sizeof state, out, IRANGELDA_LIST_BYTES_ENOUGH);
+    }
+}
+
+/* A count means nothing if the call was refused. */
+static uint64_t wanted(enum kind kind)
+{
+    size_t place = kind == READ ? batch_words : kind == WRITE ? 184 : 2568;
+    return (uint64_t)place * 256;
+}
+
+static int fail(const char *what)
+{
+    fprintf(stderr, "bench: %s\n", what);
+    return 1;
+}
+
+int main(int argc, char **argv)
+{
+    const struct calls *calls = NULL;
+    const struct line *line = NULL;
+    if (argc != 4)
+        return fail("bench WHO LINE TIMES");
+    for (size_t i = 0; i < sizeof all_calls / sizeof *all_calls; i++)
+        if (strcmp(argv[1], all_calls[i].who) == 0)
+            calls = &all_calls[i];
+    for (size_t i = 0; i < sizeof lines / sizeof *lines; i++)
+        if (strcmp(argv[2], lines[i].name) == 0)
+            line = &lines[i];
+    if (calls == NULL || line == NULL)
+        return fail("no such calls or no such line");
+    line->prepare();
+    uint64_t given = 0;
+    for (long times = atol(argv[3]); times > 0; times--)
+        given = call(calls, line->kind);
+    if (calls->read != nothing_of_six && given != wanted(line->kind))
+        return fail("the call did not answer as it should");
+    return 0;
+}

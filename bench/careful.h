@@ -1,0 +1,22 @@
+/*
+ * The three calls once more, as a careful C programmer writes them: the measure that the bench holds the archive to, and a second
+ * opinion for the tests. include/irangelda.h says what the calls do; nothing else is shared with the archive or with tuned.c.
+ */
+#ifndef CAREFUL_H
+#define CAREFUL_H
+
+#include <stddef.h>
+#include <stdint.h>
+
+uint64_t careful_read(const uint8_t *batch, size_t batch_len,
+                      const uint8_t *grants, size_t grants_len,
+                      uint8_t *state, size_t state_len);
+
+uint64_t careful_write(const uint8_t *state, size_t state_len,
+                       const uint8_t *grants, size_t grants_len,
+                       uint8_t *out, size_t out_len);
+
+uint64_t careful_list(const uint8_t *state, size_t state_len,
+                      uint8_t *out, size_t out_len);
+
+#endif

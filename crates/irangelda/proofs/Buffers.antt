@@ -1,0 +1,120 @@
+-- Reason 13, and the answers that it lets through, as one number.
+-- Assumes nothing.
+use mathlib.Core.Path.{_≡_, refl, ap, _∙_}
+use mathlib.Core.Bool.{Bool, true, false, _&&_, cond}
+use mathlib.Core.List.{List, [], _∷_, append-nil}
+use Prim.Native.Nat.{ℕ, zero, suc, _/_, _%_, _≤_}
+use native.Mathlib.Omega.{arith}
+use lib.Dec.{eqb, leb→le}
+use lib.ListN.{length, length-set, drop-of-length-le}
+use mir.Facts.{and-yes, eqb-yes}
+use Rattle.laws.specs.Lists.{every, over}
+use Rattle.laws.proofs.Tests.{holds-of}
+use Rattle.meaning.specs.declared.Kind.{Kind}
+use Rattle.meaning.specs.declared.Kind.the-variants.{Setting}
+use Rattle.meaning.specs.declared.Answer.{Answer}
+use Rattle.meaning.specs.Words.{wordsOf, bytesOf}
+use Rattle.meaning.specs.Grants.{Terms, termsOf, grantsFine}
+use Rattle.meaning.specs.State.{Write, wellFormed, apply, applyAll}
+use Rattle.meaning.specs.Positions.{nextKind, nextLeft, writesOf}
+use Rattle.meaning.specs.Answers.{badState, badGrants, badBuffer, success, numberOf, provided, settle}
+use Rattle.meaning.specs.Reader.{judge, follow, run, batchAnswer, readAnswer, readLeaves}
+use Rattle.meaning.specs.Writer.{written, writeAnswer}
+use Rattle.meaning.specs.Lister.{listAnswer, listLeaves}
+use Rattle.meaning.specs.Calls.{mostBytes, bufferFine, wordBufferFine, readCall, readCallLeaves, writeCall, writeCallLeaves, listCall, listCallLeaves}
+use Rattle.meaning.proofs.Bytes.{length-words, length-bytes}
+
+-- ---- read
+
+-- as many as there are take the place of all
+over-all : (new old : List ℕ) → length new ≡ length old → over new old ≡ new
+over-all new old e = let few : length old ≤ length new = omega arith in rw (drop-of-length-le old few) (append-nil new)
+
+length-applied : (st : List ℕ) (ws : List Write) → length (applyAll st ws) ≡ length st
+unfolding applyAll apply
+length-applied st [] = refl
+length-applied st (w ∷ ws) = length-applied (apply st w) ws ∙ simp length-set
+
+-- a place lies in the batch
+run-within : (g : Terms) (kind : Kind) (k : ℕ) (ws : List ℕ) → run g kind k ws .place ≤ length ws
+unfolding run
+run-within g kind zero [] = omega arith
+run-within g kind (suc k) [] = omega arith
+run-within g kind k (w ∷ ws) = by (judge g kind k w) (run g (nextKind kind k w) (nextLeft k w) ws) (run-within g (nextKind kind k w) (nextLeft k w) ws)
+  where
+    by : (r : ℕ) (a : Answer) → a .place ≤ length ws → follow r a .place ≤ suc (length ws)
+    by zero a h = omega arith
+    by (suc r) a h = omega arith
+
+-- a state stays as long as it was
+length-leaves : (batch gs st : List ℕ) → length (readLeaves batch gs st) ≡ length st
+unfolding readLeaves
+length-leaves batch gs st = by (eqb (readAnswer batch gs st .reason) success)
+  where
+    by : (b : Bool) → length (cond b (applyAll st (writesOf batch)) st) ≡ length st
+    by true = length-applied st (writesOf batch)
+    by false = refl
+
+module _ (batch gs st : List ℕ) where
+  abbrev Fine : Bool → Type 0
+  Fine b = every wordBufferFine (batch ∷ gs ∷ st ∷ []) ≡ b
+
+  pub read-13 : Fine false → (badBuffer ≡ numberOf (readCall batch gs st)) × (st ≡ readCallLeaves batch gs st)
+  unfolding readCall readCallLeaves
+  read-13 e = rw e (refl, refl)
+
+  -- the first and the last of them
+  told : Fine true → (length batch ≤ mostBytes) × (length st % 4 ≡ 0)
+  unfolding every wordBufferFine bufferFine
+  told e =
+      let first = and-yes (wordBufferFine batch) _ (holds-of e) in
+      let second = and-yes (wordBufferFine gs) _ (first .1) in
+      let third = and-yes (wordBufferFine st) _ (second .1) in
+      (leb→le (length batch) mostBytes (and-yes (bufferFine batch) _ (first .0) .0), eqb-yes (and-yes (bufferFine st) _ (third .0) .1))
+
+  whole-state : Fine true → over (bytesOf (readLeaves (wordsOf batch) (wordsOf gs) (wordsOf st))) st ≡ bytesOf (readLeaves (wordsOf batch) (wordsOf gs) (wordsOf st))
+  whole-state e =
+      over-all _ st
+      (length-bytes (readLeaves (wordsOf batch) (wordsOf gs) (wordsOf st)) ∙ omega (arith, length-leaves (wordsOf batch) (wordsOf gs) (wordsOf st), length-words st, told e .1))
+
+  pub read-answered : Fine true → {r : Answer} → r ≡ readAnswer (wordsOf batch) (wordsOf gs) (wordsOf st)
+      → {left : List ℕ} → left ≡ settle r (over (bytesOf (readLeaves (wordsOf batch) (wordsOf gs) (wordsOf st))) st) st
+      → {n : ℕ} → n ≡ numberOf r → (n ≡ numberOf (readCall batch gs st)) × (left ≡ readCallLeaves batch gs st)
+  unfolding readCall readCallLeaves
+  read-answered e {r} a l n = rw (e, ← a) (n, l ∙ ap (λ (x : List ℕ). settle r x st) (whole-state e))
+
+  -- a place is small
+  pub read-small : Fine true → readAnswer (wordsOf batch) (wordsOf gs) (wordsOf st) .place ≤ mostBytes
+  unfolding readAnswer batchAnswer
+  read-small e = by (wellFormed (wordsOf st)) (grantsFine (wordsOf gs))
+    where
+      by : (b c : Bool) → provided b badState (provided c badGrants (run (termsOf (wordsOf gs)) Setting 0 (wordsOf batch))) .place ≤ mostBytes
+      by false c = omega arith
+      by true false = omega arith
+      by true true = omega (arith, run-within (termsOf (wordsOf gs)) Setting 0 (wordsOf batch), length-words batch, told e .0)
+
+-- ---- write
+
+module _ (st gs out : List ℕ) where
+  pub write-13 : every wordBufferFine (st ∷ gs ∷ out ∷ []) ≡ false → (badBuffer ≡ numberOf (writeCall st gs out)) × (out ≡ writeCallLeaves st gs out)
+  unfolding writeCall writeCallLeaves
+  write-13 e = rw e (refl, refl)
+
+  pub write-answered : every wordBufferFine (st ∷ gs ∷ out ∷ []) ≡ true → {r : Answer} → r ≡ writeAnswer (wordsOf st) (wordsOf gs) (length out / 4)
+      → {left : List ℕ} → left ≡ settle r (over (bytesOf (written (wordsOf st))) out) out
+      → {n : ℕ} → n ≡ numberOf r → (n ≡ numberOf (writeCall st gs out)) × (left ≡ writeCallLeaves st gs out)
+  unfolding writeCall writeCallLeaves
+  write-answered e a l n = rw (e, ← a) (n, l)
+
+-- ---- list
+
+module _ (st out : List ℕ) where
+  pub list-13 : wordBufferFine st && bufferFine out ≡ false → (badBuffer ≡ numberOf (listCall st out)) × (out ≡ listCallLeaves st out)
+  unfolding listCall listCallLeaves
+  list-13 e = rw e (refl, refl)
+
+  pub list-answered : wordBufferFine st && bufferFine out ≡ true → {r : Answer} → r ≡ listAnswer (wordsOf st) (length out)
+      → {left : List ℕ} → left ≡ listLeaves (wordsOf st) out
+      → {n : ℕ} → n ≡ numberOf r → (n ≡ numberOf (listCall st out)) × (left ≡ listCallLeaves st out)
+  unfolding listCall listCallLeaves listLeaves
+  list-answered e a l n = rw (e, ← a) (n, l ∙ rw (← a))

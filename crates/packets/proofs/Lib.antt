@@ -1,0 +1,5 @@
+pub mod Packets
+pub mod Windows
+pub mod Runs
+pub mod Settings
+pub mod Headers

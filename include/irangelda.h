@@ -1,0 +1,145 @@
+/*
+ * Irangelda: a gate in front of a graphics chip.
+ *
+ * A program hands the driver a batch of register writes. irangelda_read looks at every word of it, and changes the register state
+ * only if the whole batch is permitted. irangelda_write gives a state back as a batch; irangelda_list gives it as text.
+ *
+ * Every buffer is bytes and every length is in bytes. A word is 32 bits, its lowest byte first. No alignment is needed.
+ *
+ *   batch    words, cut into packets. Changed by no call.
+ *   grants   0 to 64 grants of four words each: role (1 target, 2 first scaler, 3 second scaler), start, length, reach. Start +
+ *            length is at most 2^32 and reach at least 1. Changed by no call.
+ *   state    101 values, then 101 marks: 808 bytes. A mark is 0 or 1, and an unmarked value is 0. All bytes 0 is the empty state.
+ *            Changed by irangelda_read alone, and only if it answers reason 0.
+ *   out      the writer's words or the lister's text, from the first byte on. Bytes past the end of what is written stay as they
+ *            were.
+ *
+ * A word buffer (batch, grants, state, and the writer's out) has a length that is a multiple of 4. No buffer may be longer than
+ * 65,536 bytes. A call that is handed another length answers reason 13.
+ *
+ * The buffers of one call must not overlap. A pointer may be null if its length is 0, and only then; else all the bytes must be
+ * there, for the whole call, and no one else may write them meanwhile: hand over a private copy, not memory that the program can
+ * still reach.
+ *
+ * A refusal (any reason but 0) leaves every byte of every buffer as it was.
+ *
+ * The calls keep nothing from one to the next. They need no heap, no locks and no more than 4 KiB of stack, and may run at the same
+ * time as long as no buffer that one of them changes is lent to another.
+ *
+ * The archive is compiled as ordinary programs for x86-64 are: it may use the SSE registers and the 128 bytes below the stack
+ * pointer. Code that runs where this is not given, as in a kernel, has to see to both around a call.
+ *
+ * Code that has uint8_t, uint32_t, uint64_t and size_t from elsewhere (a kernel, from its own types header) defines
+ * IRANGELDA_OWN_TYPES before it includes this file, which then includes nothing.
+ */
+#ifndef IRANGELDA_H
+#define IRANGELDA_H
+
+#ifndef IRANGELDA_OWN_TYPES
+#include <stddef.h>
+#include <stdint.h>
+#endif
+
+#ifdef __cplusplus
+extern "C" {
+#endif
+
+/* Sizes, in bytes unless they say otherwise. */
+#define IRANGELDA_CELLS 101u                 /* registers; the state has a value and a mark for each */
+#define IRANGELDA_STATE_BYTES 808u           /* 202 words */
+#define IRANGELDA_GRANT_BYTES 16u            /* one grant */
+#define IRANGELDA_GRANTS_MAX 64u             /* grants in a list, at most */
+#define IRANGELDA_GRANTS_BYTES_MAX 1024u
+#define IRANGELDA_WRITE_WORDS_ENOUGH 184u    /* room that always suffices for irangelda_write, in words */
+#define IRANGELDA_WRITE_BYTES_ENOUGH 736u    /* the same in bytes */
+#define IRANGELDA_LIST_BYTES_ENOUGH 2568u    /* room that always suffices for irangelda_list */
+#define IRANGELDA_BUFFER_BYTES_MAX 65536u    /* any buffer, at most */
+
+/* The role of a grant. */
+#define IRANGELDA_ROLE_TARGET 1u
+#define IRANGELDA_ROLE_FIRST_SCALER 2u
+#define IRANGELDA_ROLE_SECOND_SCALER 3u
+
+/*
+ * The answer of each call is one number, place * 256 + reason. Places in a batch are counted in words, from 0.
+ *
+ * Where several reasons would fit, the order is 13, 1, 2; then the reader goes through the words from the front and takes the
+ * lowest number at the first bad word, with 10 last; the writer takes 12 before 11.
+ */
+enum irangelda_reason {
+    /* Done. Place: the length of the batch in words (read), words written (write), bytes written (list). */
+    IRANGELDA_OK = 0,
+    /* All calls: the state is not 202 words, or a mark is neither 0 nor 1, or an unmarked value is not 0. Place: 0. */
+    IRANGELDA_BAD_STATE = 1,
+    /* Read, write: the list is not 0 to 64 whole grants, or a grant has another role, ends past 2^32 or has reach 0. Place: 0. */
+    IRANGELDA_BAD_GRANTS = 2,
+    /* Read: the offset in a header is neither 043Ch nor a video register. Place: the header. */
+    IRANGELDA_BAD_OFFSET = 3,
+    /* Read: the count in a header is outside its range, or the run leaves the video registers. Place: the header. */
+    IRANGELDA_BAD_COUNT = 4,
+    /* Read: the setting of a 3D packet is not allowed. Place: the setting. */
+    IRANGELDA_BAD_SETTING = 5,
+    /* Read: a parameter names no register. Place: the parameter. */
+    IRANGELDA_NO_REGISTER = 6,
+    /* Read: a bit that must be clear is set. Place: the word. */
+    IRANGELDA_BIT_SET = 7,
+    /* Read: the value is not one that the register may hold. Place: the word. */
+    IRANGELDA_BAD_VALUE = 8,
+    /* Read: the word holds an address that no grant covers, with its reach. Place: the word. */
+    IRANGELDA_NOT_GRANTED = 9,
+    /* Read: the batch ends inside a packet, and no word before its end is bad. Place: the length of the batch in words. */
+    IRANGELDA_ENDS_INSIDE = 10,
+    /* Write, list: out is too short. Place: 0. */
+    IRANGELDA_NO_ROOM = 11,
+    /* Write: a marked cell holds a value that the reader would refuse under these grants, or a 3D value of 2^24 or more.
+       Place: the lowest such cell, 0 to 100. */
+    IRANGELDA_NOT_WRITABLE = 12,
+    /* All calls: a buffer is longer than 65,536 bytes, or a word buffer is not a multiple of 4 long. Place: 0. */
+    IRANGELDA_BAD_BUFFER = 13
+};
+
+/* The reason and the place of an answer. */
+#define IRANGELDA_REASON(answer) ((enum irangelda_reason)((answer) & 255u))
+#define IRANGELDA_PLACE(answer) ((uint32_t)((answer) >> 8))
+
+/*
+ * Reads a batch. Reason 0: every packet is permitted under the grants, and its writes have been applied to the state, one after
+ * another. Any other reason: the state is as it was.
+ *
+ *   batch, batch_len    looked at. 0 bytes is the empty batch, which is permitted and changes nothing.
+ *   grants, grants_len  looked at. 0 bytes is no grants.
+ *   state, state_len    looked at and changed: 808 bytes.
+ */
+uint64_t irangelda_read(const uint8_t *batch, size_t batch_len,
+                        const uint8_t *grants, size_t grants_len,
+                        uint8_t *state, size_t state_len);
+
+/*
+ * Writes a state as a batch that takes the empty state to it and that irangelda_read accepts under the same grants. Reason 0: the
+ * words stand in out. Any other reason: out is as it was.
+ *
+ *   state, state_len    looked at: 808 bytes.
+ *   grants, grants_len  looked at. 0 bytes is no grants.
+ *   out, out_len        gets the words. 736 bytes always suffice; the empty state needs none.
+ */
+uint64_t irangelda_write(const uint8_t *state, size_t state_len,
+                         const uint8_t *grants, size_t grants_len,
+                         uint8_t *out, size_t out_len);
+
+/*
+ * Lists a state as text: a line `cells=` with the number of marked cells in decimal, then for each of them, in order, a line like
+ * `reg=01.00.50 val=00001000` (type, sub-type and sub-address of a 3D register) or `reg=23f0 val=00001000` (offset of a video
+ * register). Each line ends with 0Ah; there is no 0 byte at the end. Reason 0: the text stands in out. Any other reason: out is as
+ * it was.
+ *
+ *   state, state_len    looked at: 808 bytes.
+ *   out, out_len        gets the text. Any length up to 65,536, not only multiples of 4; 2,568 bytes always suffice.
+ */
+uint64_t irangelda_list(const uint8_t *state, size_t state_len,
+                        uint8_t *out, size_t out_len);
+
+#ifdef __cplusplus
+}
+#endif
+
+#endif

@@ -1,0 +1,12 @@
+/* The parts of the test. Each goes through its cases with every party. */
+#ifndef CASES_H
+#define CASES_H
+
+void readings(void);   /* document 01's cases and likely slips, with the state after */
+void registers(void);  /* every register lands in its cell; every must-be-clear bit; every value rule */
+void writings(void);   /* the writer's exact words and the lister's exact bytes; there and back */
+void borders(void);    /* every kind of word at places where pieces might begin */
+void limits(void);     /* lengths around reason 13's limits, and the order of 13, 1 and 2 */
+void made_up(void);    /* many made-up calls, on which the archive, careful.c and tuned.c agree */
+
+#endif

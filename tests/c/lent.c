@@ -1,0 +1,210 @@
+#define _GNU_SOURCE
+#include "lent.h"
+#include "../../bench/careful.h"
+#include "../../bench/tuned.h"
+#include "../../include/irangelda.h"
+#include "check.h"
+#include <stdio.h>
+#include <stdlib.h>
+#include <string.h>
+#include <sys/mman.h>
+#include <ucontext.h>
+
+enum { PAGE = 4096, GUARD = 64, GUARD_BYTE = 0x5c, PAINT = 0xa5, STACK_BYTES = 4 * PAGE, RETURN_ADDRESS = 8 };
+
+const struct party parties[PARTIES] = {
+    [ARCHIVE] = { "archive", irangelda_read, irangelda_write, irangelda_list },
+    [CAREFUL] = { "careful", careful_read, careful_write, careful_list },
+    [TUNED] = { "tuned", tuned_read, tuned_write, tuned_list }
+};
+
+const char *const kind_names[KINDS] = { "read", "write", "list" };
+
+/* ---- memory between two pages that cannot be touched */
+
+static uint8_t *fenced(size_t length)
+{
+    uint8_t *low = mmap(NULL, length + 2 * PAGE, PROT_NONE, MAP_PRIVATE | MAP_ANONYMOUS, -1, 0);
+    if (low == MAP_FAILED || mprotect(low + PAGE, length, PROT_READ | PROT_WRITE) != 0) {
+        perror("no memory");
+        exit(1);
+    }
+    return low + PAGE;
+}
+
+enum { ROOM = (MOST_LENT + 2 * GUARD + PAGE - 1) / PAGE * PAGE };
+
+static uint8_t *rooms[BUFFERS];
+static uint8_t guards[GUARD]; /* what guard bytes look like */
+
+/* A buffer in its room. `behind` guard bytes follow it: none where it ends at the fence. */
+struct place {
+    uint8_t *at;
+    size_t length, behind;
+};
+
+/* In turn somewhere among guard bytes, and at the very end of the room; an empty buffer in turn as some place and as a null pointer.
+   Eight calls of one party go through all ways to lend three buffers. */
+static struct place lend(size_t which, struct bytes bytes, unsigned turn)
+{
+    struct place place = { rooms[which] + GUARD + turn / 2 % 16, bytes.length, GUARD - 16 };
+    if (turn % 2 == 1) {
+        place.at = bytes.length == 0 ? NULL : rooms[which] + ROOM - bytes.length;
+        place.behind = 0;
+    }
+    if (place.at == NULL)
+        return place;
+    memcpy(place.at - GUARD, guards, GUARD);
+    memcpy(place.at + place.length, guards, place.behind);
+    if (bytes.length != 0)
+        memcpy(place.at, bytes.at, bytes.length);
+    return place;
+}
+
+static int are_guards(const uint8_t *bytes, size_t length)
+{
+    return memcmp(bytes, guards, length) == 0;
+}
+
+static int guards_whole(const struct place *place)
+{
+    return place->at == NULL || (are_guards(place->at - GUARD, GUARD) && are_guards(place->at + place->length, place->behind));
+}
+
+static int same(const struct place *place, struct bytes bytes, size_t from)
+{
+    return from >= bytes.length || memcmp(place->at + from, bytes.at + from, bytes.length - from) == 0;
+}
+
+/* ---- stacks */
+
+/* Says nothing and does nothing: shows how much of the stack is used before a call begins. */
+static uint64_t nothing_of_six(const uint8_t *a, size_t a_len, const uint8_t *b, size_t b_len, uint8_t *c, size_t c_len)
+{
+    (void)a, (void)a_len, (void)b, (void)b_len, (void)c, (void)c_len;
+    return 0;
+}
+
+static uint64_t nothing_of_four(const uint8_t *a, size_t a_len, uint8_t *b, size_t b_len)
+{
+    (void)a, (void)a_len, (void)b, (void)b_len;
+    return 0;
+}
+
+static const struct party nobody = { "nobody", nothing_of_six, nothing_of_six, nothing_of_four };
+
+/* A stack for each party and kind of call, and one for nobody. Painted once: what is left of the paint tells the deepest use. */
+static uint8_t *stacks[PARTIES + 1][KINDS];
+
+static size_t number_of(const struct party *party)
+{
+    return party == &nobody ? PARTIES : (size_t)(party - parties);
+}
+
+static size_t depth(const struct party *party, enum kind kind)
+{
+    const uint8_t *stack = stacks[number_of(party)][kind];
+    size_t untouched = 0;
+    while (untouched < STACK_BYTES && stack[untouched] == PAINT)
+        untouched++;
+    return STACK_BYTES - untouched;
+}
+
+size_t stack_used(const struct party *party, enum kind kind)
+{
+    return depth(party, kind) - depth(&nobody, kind) + RETURN_ADDRESS;
+}
+
+/* ---- the call */
+
+static struct {
+    const struct party *party;
+    enum kind kind;
+    struct place places[BUFFERS];
+    uint64_t answer;
+} under_way;
+
+static ucontext_t caller, callee;
+
+static void call(void)
+{
+    const struct party *party = under_way.party;
+    const struct place *p = under_way.places;
+    switch (under_way.kind) {
+    case READ:
+        under_way.answer = party->read(p[0].at, p[0].length, p[1].at, p[1].length, p[2].at, p[2].length);
+        break;
+    case WRITE:
+        under_way.answer = party->write(p[0].at, p[0].length, p[1].at, p[1].length, p[2].at, p[2].length);
+        break;
+    default:
+        under_way.answer = party->list(p[0].at, p[0].length, p[2].at, p[2].length);
+    }
+}
+
+static void call_on_own_stack(void)
+{
+    if (getcontext(&callee) != 0)
+        exit(1);
+    callee.uc_stack.ss_sp = stacks[number_of(under_way.party)][under_way.kind];
+    callee.uc_stack.ss_size = STACK_BYTES;
+    callee.uc_link = &caller;
+    makecontext(&callee, call, 0);
+    if (swapcontext(&caller, &callee) != 0)
+        exit(1);
+}
+
+static size_t bytes_written(enum kind kind, uint64_t answer)
+{
+    size_t place = IRANGELDA_PLACE(answer);
+    return kind == READ ? IRANGELDA_STATE_BYTES : kind == WRITE ? 4 * place : place;
+}
+
+static void look_around(const struct request *request)
+{
+    const char *who = under_way.party->name, *what = kind_names[request->kind];
+    const struct place *places = under_way.places;
+    uint64_t answer = under_way.answer;
+    for (size_t i = 0; i < BUFFERS; i++)
+        expect(guards_whole(&places[i]), "%s %s: a guard byte of buffer %zu changed", who, what, i);
+    expect(same(&places[0], request->lent[0], 0), "%s %s: the first buffer changed", who, what);
+    expect(same(&places[1], request->lent[1], 0), "%s %s: the grants changed", who, what);
+    if (IRANGELDA_REASON(answer) != IRANGELDA_OK)
+        expect(same(&places[2], request->lent[2], 0), "%s %s: refused, and a byte changed", who, what);
+    else
+        expect(same(&places[2], request->lent[2], bytes_written(request->kind, answer)), "%s %s: wrote past its end", who, what);
+}
+
+void perform(const struct party *party, const struct request *request, struct outcome *outcome)
+{
+    static unsigned turns[PARTIES + 1];
+    unsigned turn = turns[number_of(party)]++;
+    under_way.party = party;
+    under_way.kind = request->kind;
+    for (size_t i = 0; i < BUFFERS; i++)
+        under_way.places[i] = lend(i, request->lent[i], turn >> i);
+    call_on_own_stack();
+    look_around(request);
+    outcome->answer = under_way.answer;
+    outcome->length = request->lent[2].length;
+    if (outcome->length != 0)
+        memcpy(outcome->after, under_way.places[2].at, outcome->length);
+}
+
+void prepare_lending(void)
+{
+    memset(guards, GUARD_BYTE, GUARD);
+    for (size_t i = 0; i < BUFFERS; i++)
+        rooms[i] = fenced(ROOM);
+    for (size_t party = 0; party <= PARTIES; party++)
+        for (size_t kind = 0; kind < KINDS; kind++) {
+            stacks[party][kind] = fenced(STACK_BYTES);
+            memset(stacks[party][kind], PAINT, STACK_BYTES);
+        }
+    static struct outcome unused;
+    static const uint8_t no_bytes[1];
+    for (int kind = 0; kind < KINDS; kind++) {
+        struct request request = { (enum kind)kind, { { no_bytes, 0 }, { no_bytes, 0 }, { no_bytes, 0 } } };
+        perform(&nobody, &request, &unused);
+    }
+}

@@ -1,0 +1,52 @@
+/*
+ * A call with everything around it watched. Each buffer lies between guard bytes, or ends where memory that cannot be touched begins;
+ * the call runs on a stack of its own. After each call: the guards are whole, what is lent for reading is as it was, a refusal has
+ * changed nothing, and a success nothing past the end of what it wrote.
+ */
+#ifndef LENT_H
+#define LENT_H
+
+#include <stddef.h>
+#include <stdint.h>
+
+enum kind { READ, WRITE, LIST, KINDS };
+
+/* The longest buffer of any test is a little longer than the calls take. */
+enum { BUFFERS = 3, MOST_LENT = 65536 + 64 };
+
+struct bytes {
+    const uint8_t *at;
+    size_t length;
+};
+
+/* Read: batch, grants, state. Write: state, grants, out. List: state, nothing, out. The last is the one that the call may change. */
+struct request {
+    enum kind kind;
+    struct bytes lent[BUFFERS];
+};
+
+struct outcome {
+    uint64_t answer;
+    size_t length;
+    uint8_t after[MOST_LENT];
+};
+
+/* Who answers: the archive, which is what is tested, and the two C versions of the bench, careful.c and tuned.c. */
+struct party {
+    const char *name;
+    uint64_t (*read)(const uint8_t *, size_t, const uint8_t *, size_t, uint8_t *, size_t);
+    uint64_t (*write)(const uint8_t *, size_t, const uint8_t *, size_t, uint8_t *, size_t);
+    uint64_t (*list)(const uint8_t *, size_t, uint8_t *, size_t);
+};
+
+enum { ARCHIVE, CAREFUL, TUNED, PARTIES };
+extern const struct party parties[PARTIES];
+extern const char *const kind_names[KINDS];
+
+void prepare_lending(void);
+void perform(const struct party *party, const struct request *request, struct outcome *outcome);
+
+/* The most bytes of stack that any call of this kind has used so far, its return address among them. */
+size_t stack_used(const struct party *party, enum kind kind);
+
+#endif

@@ -1,0 +1,284 @@
+#define _GNU_SOURCE
+#include "cases.h"
+#include "check.h"
+#include "lent.h"
+#include "words.h"
+#include <string.h>
+#include <sys/mman.h>
+
+enum { LENT_WORDS = MOST_LENT / 4, OK = IRANGELDA_OK, LAST = BUFFERS - 1 };
+
+/* Contents that are fine at any length at which they can be: writes of 2208; the same grant again and again; a state with 2208. */
+static uint8_t batch[MOST_LENT], grants[MOST_LENT], state[MOST_LENT], out[MOST_LENT];
+
+static void fill(void)
+{
+    static const uint32_t grant[4] = { 1, 0x1000, 0x1000, 1 };
+    for (size_t i = 0; i < LENT_WORDS; i++) {
+        put_word(batch, i, i % 2 == 0 ? 0x00012208 : 0x00000007);
+        put_word(grants, i, grant[i % 4]);
+        put_word(out, i, 0xeeeeeeee);
+    }
+    set_cell(state, 84, 7);
+}
+
+static struct outcome outcome;
+
+static void answers(const struct party *party, const char *what, const struct request *request, uint32_t place, unsigned reason)
+{
+    perform(party, request, &outcome);
+    expect(outcome.answer == (uint64_t)place * 256 + reason, "%s %s, %s, lengths %zu %zu %zu: reason %u place %u", party->name,
+           kind_names[request->kind], what, request->lent[0].length, request->lent[1].length, request->lent[2].length,
+           (unsigned)IRANGELDA_REASON(outcome.answer), (unsigned)IRANGELDA_PLACE(outcome.answer));
+}
+
+/* A request that is answered by success. */
+static struct request fine(enum kind kind)
+{
+    switch (kind) {
+    case READ:
+        return (struct request){ READ, { { batch, 8 }, { grants, 16 }, { state, STATE_BYTES } } };
+    case WRITE:
+        return (struct request){ WRITE, { { state, STATE_BYTES }, { grants, 16 }, { out, 8 } } };
+    default:
+        return (struct request){ LIST, { { state, STATE_BYTES }, { NULL, 0 }, { out, 30 } } };
+    }
+}
+
+static uint32_t fine_place(enum kind kind)
+{
+    return kind == LIST ? 30 : 2;
+}
+
+/* ---- one buffer's length at a time */
+
+struct length {
+    size_t length;
+    unsigned reason;
+    uint32_t place;
+};
+
+static void lengths(const struct party *party, enum kind kind, size_t buffer, const struct length *list, size_t count)
+{
+    for (size_t i = 0; i < count; i++)
+        for (int way = 0; way < 8; way++) { /* all ways to lend the buffers, an empty one as a pointer and as null among them */
+            struct request request = fine(kind);
+            request.lent[buffer].length = list[i].length;
+            answers(party, "one length", &request, list[i].place, list[i].reason);
+        }
+}
+
+#define LENGTHS(party, kind, buffer, list) lengths(party, kind, buffer, list, sizeof(list) / sizeof *(list))
+
+#define NOT_WHOLE_WORDS { 1, 13, 0 }, { 2, 13, 0 }, { 3, 13, 0 }, { 65533, 13, 0 }, { 65534, 13, 0 }, { 65535, 13, 0 }
+#define TOO_LONG { 65537, 13, 0 }, { 65538, 13, 0 }, { 65539, 13, 0 }, { 65540, 13, 0 }, { 65544, 13, 0 }, { 65552, 13, 0 }
+
+static void batch_lengths(const struct party *party)
+{
+    static const struct length list[] = {
+        { 0, OK, 0 }, { 4, 10, 1 }, { 5, 13, 0 }, { 6, 13, 0 }, { 7, 13, 0 }, { 8, OK, 2 },
+        { 65528, OK, 16382 }, { 65532, 10, 16383 }, { 65536, OK, 16384 }, NOT_WHOLE_WORDS, TOO_LONG
+    };
+    LENGTHS(party, READ, 0, list);
+}
+
+static void grants_lengths(const struct party *party, enum kind kind)
+{
+    const struct length list[] = {
+        { 0, OK, fine_place(kind) }, { 4, 2, 0 }, { 8, 2, 0 }, { 12, 2, 0 }, { 13, 13, 0 }, { 14, 13, 0 }, { 15, 13, 0 },
+        { 16, OK, fine_place(kind) }, { 17, 13, 0 }, { 20, 2, 0 }, { 1008, OK, fine_place(kind) }, { 1012, 2, 0 },
+        { 1024, OK, fine_place(kind) }, { 1025, 13, 0 }, { 1028, 2, 0 }, { 1040, 2, 0 }, { 2048, 2, 0 },
+        { 65520, 2, 0 }, { 65532, 2, 0 }, { 65536, 2, 0 }, NOT_WHOLE_WORDS, TOO_LONG
+    };
+    LENGTHS(party, kind, 1, list);
+}
+
+static void state_lengths(const struct party *party, enum kind kind)
+{
+    const struct length list[] = {
+        { 0, 1, 0 }, { 4, 1, 0 }, { 404, 1, 0 }, { 804, 1, 0 }, { 805, 13, 0 }, { 806, 13, 0 }, { 807, 13, 0 },
+        { 808, OK, fine_place(kind) }, { 809, 13, 0 }, { 810, 13, 0 }, { 811, 13, 0 }, { 812, 1, 0 }, { 1616, 1, 0 },
+        { 65532, 1, 0 }, { 65536, 1, 0 }, NOT_WHOLE_WORDS, TOO_LONG
+    };
+    LENGTHS(party, kind, kind == READ ? LAST : 0, list);
+}
+
+static void writer_room(const struct party *party)
+{
+    static const struct length list[] = {
+        { 0, 11, 0 }, { 4, 11, 0 }, { 5, 13, 0 }, { 6, 13, 0 }, { 7, 13, 0 }, { 8, OK, 2 }, { 9, 13, 0 }, { 12, OK, 2 },
+        { 732, OK, 2 }, { 736, OK, 2 }, { 737, 13, 0 }, { 740, OK, 2 }, { 65532, OK, 2 }, { 65536, OK, 2 }, NOT_WHOLE_WORDS, TOO_LONG
+    };
+    LENGTHS(party, WRITE, LAST, list);
+}
+
+/* The lister's room is bytes, and need not be whole words. */
+static void lister_room(const struct party *party)
+{
+    static const struct length list[] = {
+        { 0, 11, 0 }, { 1, 11, 0 }, { 2, 11, 0 }, { 3, 11, 0 }, { 4, 11, 0 }, { 28, 11, 0 }, { 29, 11, 0 }, { 30, OK, 30 },
+        { 31, OK, 30 }, { 32, OK, 30 }, { 33, OK, 30 }, { 2567, OK, 30 }, { 2568, OK, 30 }, { 2569, OK, 30 },
+        { 65533, OK, 30 }, { 65534, OK, 30 }, { 65535, OK, 30 }, { 65536, OK, 30 }, TOO_LONG
+    };
+    LENGTHS(party, LIST, LAST, list);
+}
+
+/* ---- the order of 13, 1, 2 and the rest */
+
+static uint8_t bad_state[STATE_BYTES], bad_cell[STATE_BYTES], bad_grant[16], bad_batch[8];
+
+static void spoil(void)
+{
+    memcpy(bad_state, state, STATE_BYTES);
+    put_word(bad_state, 0, 1);
+    set_cell(bad_cell, 84, 0xffffffff);
+    put_word(bad_grant, 0, 4);
+    put_word(bad_batch, 0, 0xffffffff);
+}
+
+static struct request with(struct request request, size_t buffer, const uint8_t *bytes)
+{
+    request.lent[buffer].at = bytes;
+    return request;
+}
+
+static struct request as_long_as(struct request request, size_t buffer, size_t length)
+{
+    request.lent[buffer].length = length;
+    return request;
+}
+
+/* Everything else is wrong too: each buffer's length alone still gives 13. */
+static void thirteen_first(const struct party *party, struct request all_wrong)
+{
+    for (size_t buffer = 0; buffer < BUFFERS; buffer++) {
+        struct request longer = as_long_as(all_wrong, buffer, 65540), odd = as_long_as(all_wrong, buffer, 7);
+        longer.lent[buffer].at = batch;
+        odd.lent[buffer].at = batch;
+        if (all_wrong.kind == LIST && buffer == 1)
+            continue;
+        answers(party, "13 first", &longer, 0, 13);
+        if (all_wrong.kind != LIST || buffer != LAST)
+            answers(party, "13 first", &odd, 0, 13);
+    }
+}
+
+static void reader_order(const struct party *party)
+{
+    struct request batch_wrong = with(fine(READ), 0, bad_batch), grants_wrong = with(batch_wrong, 1, bad_grant);
+    struct request all_wrong = with(grants_wrong, LAST, bad_state);
+    thirteen_first(party, all_wrong);
+    answers(party, "1 before 2", &all_wrong, 0, 1);
+    answers(party, "2 before 3", &grants_wrong, 0, 2);
+    answers(party, "3", &batch_wrong, 0, 3);
+}
+
+static void writer_order(const struct party *party)
+{
+    struct request no_room = as_long_as(fine(WRITE), LAST, 0), cell_wrong = with(no_room, 0, bad_cell);
+    struct request grants_wrong = with(cell_wrong, 1, bad_grant), all_wrong = with(grants_wrong, 0, bad_state);
+    thirteen_first(party, all_wrong);
+    answers(party, "1 before 2", &all_wrong, 0, 1);
+    answers(party, "2 before 12", &grants_wrong, 0, 2);
+    answers(party, "12 before 11", &cell_wrong, 84, 12);
+    answers(party, "11", &no_room, 0, 11);
+}
+
+static void lister_order(const struct party *party)
+{
+    struct request no_room = as_long_as(fine(LIST), LAST, 0), all_wrong = with(no_room, 0, bad_state);
+    thirteen_first(party, all_wrong);
+    answers(party, "1 before 11", &all_wrong, 0, 1);
+    answers(party, "11", &no_room, 0, 11);
+}
+
+/* ---- each word of the state, spoilt in turn */
+
+static void spoilt_states(const struct party *party, enum kind kind)
+{
+    static const uint32_t bad_marks[] = { 2, 3, 0x100, 0x80000000, 0xffffffff };
+    static const uint32_t bad_values[] = { 1, 0x80, 0x80000000, 0xffffffff };
+    size_t buffer = kind == READ ? LAST : 0;
+    uint8_t spoilt[STATE_BYTES];
+    struct request request = with(fine(kind), buffer, spoilt);
+    for (size_t cell = 0; cell < CELLS; cell++) {
+        for (size_t i = 0; i < sizeof bad_marks / sizeof *bad_marks; i++) {
+            memcpy(spoilt, state, STATE_BYTES);
+            put_word(spoilt, CELLS + cell, bad_marks[i]);
+            answers(party, "a bad mark", &request, 0, 1);
+        }
+        for (size_t i = 0; i < sizeof bad_values / sizeof *bad_values; i++) {
+            memcpy(spoilt, state, STATE_BYTES);
+            put_word(spoilt, CELLS + cell, 0);
+            put_word(spoilt, cell, bad_values[i]);
+            answers(party, "a value without a mark", &request, 0, 1);
+        }
+    }
+}
+
+/* ---- each grant of a long list, spoilt in turn */
+
+static void spoilt_grants(const struct party *party, enum kind kind)
+{
+    static const uint32_t bad[4][2] = { { 0, 4 }, { 0xfffff001, 0xffffffff }, { 0xfffff001, 0xffffffff }, { 0, 0 } };
+    uint8_t spoilt[IRANGELDA_GRANTS_BYTES_MAX];
+    struct request request = as_long_as(with(fine(kind), 1, spoilt), 1, sizeof spoilt);
+    for (size_t word = 0; word < sizeof spoilt / 4; word++)
+        for (int which = 0; which < 2; which++) {
+            memcpy(spoilt, grants, sizeof spoilt);
+            put_word(spoilt, word, bad[word % 4][which]);
+            answers(party, "a bad grant", &request, 0, 2);
+        }
+}
+
+/* ---- lengths that need more than 32 bits */
+
+static void huge_lengths(const struct party *party)
+{
+    size_t huge = (size_t)1 << 32, reserved = huge + MOST_LENT;
+    uint8_t *at = mmap(NULL, reserved, PROT_NONE, MAP_PRIVATE | MAP_ANONYMOUS | MAP_NORESERVE, -1, 0);
+    if (at == MAP_FAILED || mprotect(at, MOST_LENT / 4096 * 4096, PROT_READ | PROT_WRITE) != 0) {
+        expect(0, "no room in memory for huge lengths");
+        return;
+    }
+    uint8_t other[STATE_BYTES];
+    memcpy(other, state, STATE_BYTES);
+    memcpy(at, batch, 8);
+    expect(party->read(at, huge + 8, NULL, 0, other, STATE_BYTES) == 13, "%s read: a huge batch", party->name);
+    memcpy(at, grants, 16);
+    expect(party->read(batch, 8, at, huge + 16, other, STATE_BYTES) == 13, "%s read: huge grants", party->name);
+    expect(party->write(other, STATE_BYTES, at, huge + 16, out, 8) == 13, "%s write: huge grants", party->name);
+    expect(party->write(other, STATE_BYTES, NULL, 0, at, huge + 8) == 13, "%s write: a huge room", party->name);
+    expect(party->list(other, STATE_BYTES, at, huge + 30) == 13, "%s list: a huge room", party->name);
+    expect(memcmp(at, grants, 16) == 0, "%s: a huge room changed", party->name);
+    memcpy(at, state, STATE_BYTES);
+    expect(party->read(batch, 8, NULL, 0, at, huge + STATE_BYTES) == 13, "%s read: a huge state", party->name);
+    expect(party->write(at, huge + STATE_BYTES, NULL, 0, out, 8) == 13, "%s write: a huge state", party->name);
+    expect(party->list(at, huge + STATE_BYTES, out, 30) == 13, "%s list: a huge state", party->name);
+    expect(memcmp(at, state, STATE_BYTES) == 0 && memcmp(other, state, STATE_BYTES) == 0, "%s: a huge state changed", party->name);
+    munmap(at, reserved);
+}
+
+void limits(void)
+{
+    fill();
+    spoil();
+    for (size_t p = 0; p < PARTIES; p++) {
+        const struct party *party = &parties[p];
+        batch_lengths(party);
+        writer_room(party);
+        lister_room(party);
+        reader_order(party);
+        writer_order(party);
+        lister_order(party);
+        huge_lengths(party);
+        for (int kind = 0; kind < KINDS; kind++) {
+            state_lengths(party, (enum kind)kind);
+            spoilt_states(party, (enum kind)kind);
+        }
+        for (int kind = READ; kind <= WRITE; kind++) {
+            grants_lengths(party, (enum kind)kind);
+            spoilt_grants(party, (enum kind)kind);
+        }
+    }
+}

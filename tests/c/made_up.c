@@ -1,0 +1,206 @@
+#include "cases.h"
+#include "chance.h"
+#include "check.h"
+#include "lent.h"
+#include "making.h"
+#include <stdio.h>
+#include <string.h>
+
+enum { READS = 70000, WRITES = 50000, LISTS = 30000, REASONS = 14, MANY = 100 };
+
+static unsigned long given[KINDS][REASONS];
+
+/* Which reasons a call can give, as bits. */
+static const unsigned can_give[KINDS] = {
+    1u << 0 | 1u << 1 | 1u << 2 | 1u << 3 | 1u << 4 | 1u << 5 | 1u << 6 | 1u << 7 | 1u << 8 | 1u << 9 | 1u << 10 | 1u << 13,
+    1u << 0 | 1u << 1 | 1u << 2 | 1u << 11 | 1u << 12 | 1u << 13,
+    1u << 0 | 1u << 1 | 1u << 11 | 1u << 13
+};
+
+static struct grants grants;
+static struct batch batch;
+static uint32_t state[2 * CELLS];
+
+/* The bytes that are handed over. */
+static uint8_t batch_bytes[MOST_LENT], grant_bytes[4 * MOST_GRANT_WORDS], state_bytes[STATE_BYTES + 64], out_bytes[MOST_LENT];
+
+static struct outcome ours, theirs;
+
+static void count_answer(enum kind kind, uint64_t answer)
+{
+    if (answer % 256 < REASONS)
+        given[kind][answer % 256]++;
+}
+
+/* Another party gives the archive's answer and leaves the archive's bytes. */
+static void agrees(const struct party *party, const struct request *request)
+{
+    const char *kind = kind_names[request->kind];
+    perform(party, request, &theirs);
+    expect(ours.answer == theirs.answer, "made-up %s: archive answers reason %u place %u, %s reason %u place %u", kind,
+           (unsigned)(ours.answer % 256), (unsigned)(ours.answer / 256), party->name, (unsigned)(theirs.answer % 256),
+           (unsigned)(theirs.answer / 256));
+    expect(memcmp(ours.after, theirs.after, ours.length) == 0, "made-up %s: archive and %s leave different bytes", kind, party->name);
+}
+
+static void all_agree(const struct request *request)
+{
+    perform(&parties[ARCHIVE], request, &ours);
+    count_answer(request->kind, ours.answer);
+    agrees(&parties[CAREFUL], request);
+    agrees(&parties[TUNED], request);
+}
+
+/* Now and then a few bytes more or fewer. */
+static size_t some_length(size_t length, size_t most)
+{
+    size_t off = 1 + below(4);
+    if (!once_in(60))
+        return length;
+    if (once_in(3))
+        return length < off ? 0 : length - off;
+    return length + off <= most ? length + off : most;
+}
+
+static struct bytes grants_lent(void)
+{
+    make_grants(&grants);
+    if (once_in(20))
+        break_grants(&grants);
+    put_words(grant_bytes, grants.word, grants.words);
+    return (struct bytes){ grant_bytes, some_length(4 * grants.words, sizeof grant_bytes) };
+}
+
+static struct bytes state_lent(uint32_t damaged_once_in)
+{
+    static const uint32_t every[4] = { 1, 2, 4, 30 };
+    make_state(state, &grants, every[below(4)]);
+    if (once_in(damaged_once_in))
+        damage_state(state);
+    put_words(state_bytes, state, 2 * CELLS);
+    return (struct bytes){ state_bytes, some_length(STATE_BYTES, sizeof state_bytes) };
+}
+
+/* Mostly short, some long enough to be read in pieces, a few as long as they may be. */
+static size_t some_batch_length(void)
+{
+    if (once_in(150))
+        return 4096 + below(LONGEST_WORDS - 4096) + 1;
+    return once_in(8) ? 100 + below(1200) : below(48);
+}
+
+static void made_up_read(void)
+{
+    struct request request = { READ, { { batch_bytes, 0 }, grants_lent(), { state_bytes, 0 } } };
+    make_batch(&batch, &grants, some_batch_length());
+    if (!once_in(3))
+        damage_batch(&batch);
+    put_words(batch_bytes, batch.word, batch.words);
+    request.lent[0].length = some_length(4 * batch.words, sizeof batch_bytes);
+    request.lent[2] = state_lent(30);
+    all_agree(&request);
+}
+
+/* The room that careful.c says is needed, where it says so. */
+static size_t room_needed(const struct request *request)
+{
+    struct request roomy = *request;
+    roomy.lent[2] = (struct bytes){ out_bytes, 4096 };
+    perform(&parties[CAREFUL], &roomy, &theirs);
+    return theirs.answer % 256 == IRANGELDA_OK ? theirs.answer / 256 * (request->kind == WRITE ? 4 : 1) : 0;
+}
+
+static size_t some_room(const struct request *request, size_t unit)
+{
+    size_t needed = room_needed(request);
+    switch (below(8)) {
+    case 0:
+        return needed;
+    case 1:
+        return needed + unit;
+    case 2:
+        return needed >= unit ? needed - unit : 0;
+    case 3:
+        return unit * below((uint32_t)(needed / unit) + 1);
+    case 4:
+        return once_in(8) ? 65536 : once_in(8) ? 65540 : unit == 4 ? IRANGELDA_WRITE_BYTES_ENOUGH : IRANGELDA_LIST_BYTES_ENOUGH;
+    default:
+        return needed + unit * below(40);
+    }
+}
+
+static void fill_room(size_t length)
+{
+    uint8_t byte = (uint8_t)chance();
+    for (size_t i = 0; i < length; i++)
+        out_bytes[i] = (uint8_t)(byte + 7 * i);
+}
+
+/* What the archive wrote leads its reader from the empty state back. */
+static void reads_back(const struct request *written)
+{
+    static const uint8_t empty[STATE_BYTES];
+    static uint8_t words[IRANGELDA_WRITE_BYTES_ENOUGH];
+    size_t length = 4 * (size_t)(ours.answer / 256);
+    memcpy(words, ours.after, length);
+    struct request request = { READ, { { words, length }, written->lent[1], { empty, STATE_BYTES } } };
+    perform(&parties[ARCHIVE], &request, &ours);
+    expect(ours.answer == length / 4 * 256 && memcmp(ours.after, state_bytes, STATE_BYTES) == 0, "made-up write: does not lead back");
+}
+
+static void made_up_write(void)
+{
+    struct request request = { WRITE, { { state_bytes, 0 }, grants_lent(), { out_bytes, 0 } } };
+    request.lent[0] = state_lent(3);
+    request.lent[2].length = some_length(some_room(&request, 4), sizeof out_bytes);
+    fill_room(request.lent[2].length);
+    all_agree(&request);
+    if (ours.answer % 256 == IRANGELDA_OK && ours.answer / 256 * 4 <= IRANGELDA_WRITE_BYTES_ENOUGH)
+        reads_back(&request);
+}
+
+static void made_up_list(void)
+{
+    grants_lent();
+    struct request request = { LIST, { state_lent(3), { NULL, 0 }, { out_bytes, 0 } } };
+    request.lent[2].length = some_room(&request, 1);
+    fill_room(request.lent[2].length);
+    all_agree(&request);
+}
+
+static void print_counts(void)
+{
+    printf("made-up calls by reason:\n%6s", "");
+    for (int reason = 0; reason < REASONS; reason++)
+        printf(" %7d", reason);
+    printf("\n");
+    for (int kind = 0; kind < KINDS; kind++) {
+        printf("%6s", kind_names[kind]);
+        for (int reason = 0; reason < REASONS; reason++)
+            printf(" %7lu", given[kind][reason]);
+        printf("\n");
+    }
+}
+
+static void look_at_counts(void)
+{
+    for (int kind = 0; kind < KINDS; kind++)
+        for (int reason = 0; reason < REASONS; reason++)
+            if ((can_give[kind] >> reason & 1) != 0)
+                expect(given[kind][reason] >= MANY, "made-up %s: reason %d came only %lu times", kind_names[kind], reason,
+                       given[kind][reason]);
+            else
+                expect(given[kind][reason] == 0, "made-up %s: reason %d came %lu times", kind_names[kind], reason, given[kind][reason]);
+}
+
+void made_up(void)
+{
+    for (int i = 0; i < READS; i++)
+        made_up_read();
+    for (int i = 0; i < WRITES; i++)
+        made_up_write();
+    for (int i = 0; i < LISTS; i++)
+        made_up_list();
+    print_counts();
+    look_at_counts();
+}

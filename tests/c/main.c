@@ -1,0 +1,43 @@
+/* Runs every part, then looks at the stacks. The last line says whether all passed. */
+#include "cases.h"
+#include "check.h"
+#include "lent.h"
+#include <stdio.h>
+
+enum { MOST_STACK = 4096 };
+
+static void stacks(void)
+{
+    for (size_t p = 0; p < PARTIES; p++)
+        for (int kind = 0; kind < KINDS; kind++) {
+            size_t used = stack_used(&parties[p], (enum kind)kind);
+            printf("stack: %s %s uses at most %zu bytes\n", parties[p].name, kind_names[kind], used);
+            expect(used <= MOST_STACK, "%s %s: more than %d bytes of stack", parties[p].name, kind_names[kind], MOST_STACK);
+        }
+}
+
+static void part(const char *name, void (*run)(void))
+{
+    unsigned long before = checks;
+    run();
+    printf("%s: %lu checks\n", name, checks - before);
+}
+
+int main(void)
+{
+    setvbuf(stdout, NULL, _IOLBF, 0); /* so that a crash does not swallow what was said before it */
+    prepare_lending();
+    part("readings", readings);
+    part("registers", registers);
+    part("writings", writings);
+    part("borders", borders);
+    part("limits", limits);
+    part("made-up calls", made_up);
+    part("stacks", stacks);
+    if (failures != 0) {
+        printf("C tests: %lu of %lu checks failed\n", failures, checks);
+        return 1;
+    }
+    printf("C tests: all %lu checks passed\n", checks);
+    return 0;
+}

@@ -1,0 +1,274 @@
+#include "making.h"
+#include "chance.h"
+#include "registers.h"
+#include <string.h>
+
+#define ONE_OF(...) one_of((const uint32_t[]){ __VA_ARGS__ }, (uint32_t)(sizeof((const uint32_t[]){ __VA_ARGS__ }) / sizeof(uint32_t)))
+
+/* Each statement draws at most once before it picks, so that every compiler makes the same. */
+static uint32_t one_of(const uint32_t *list, uint32_t count)
+{
+    return list[below(count)];
+}
+
+static const uint64_t memory_end = (uint64_t)1 << 32;
+
+/* ---- grants */
+
+static void add_granted(struct grants *grants, uint32_t role, uint64_t address)
+{
+    grants->granted[role][grants->count[role]++] = (uint32_t)address;
+}
+
+/* The lowest and the highest address of a grant that its registers can hold, if there is one. */
+static void note_granted(struct grants *grants, uint32_t role, uint64_t start, uint64_t length, uint64_t reach)
+{
+    uint64_t step = role == 1 ? 256 : 16, limit = role == 1 ? memory_end : (uint64_t)1 << 29;
+    if (reach > length)
+        return;
+    uint64_t low = (start + step - 1) / step * step, last = start + length - reach;
+    uint64_t high = (last < limit ? last : limit - 1) / step * step;
+    if (low > high)
+        return;
+    add_granted(grants, role, low);
+    add_granted(grants, role, high);
+}
+
+static void add_grant(struct grants *grants)
+{
+    uint32_t role = 1 + below(3), *word = grants->word + grants->words;
+    uint32_t any_start = chance(), any_length = chance();
+    uint64_t start = ONE_OF(0, 0x100000, any_start >> 4, any_start >> 3 & 0xfffffff0, any_start, 0xffffff00, 0xffffffff);
+    uint64_t length = ONE_OF(0, 1, 0x100, 0x1000, 0x80000, any_length >> 8, any_length, 0xffffffff);
+    if (start != 0 && (start + length > memory_end || once_in(10)))
+        length = memory_end - start;
+    uint64_t reach = ONE_OF(1, 16, 0x100, (uint32_t)length, (uint32_t)length, (uint32_t)length + 1, chance() >> 16);
+    if (reach == 0)
+        reach = 1;
+    word[0] = role;
+    word[1] = (uint32_t)start;
+    word[2] = (uint32_t)length;
+    word[3] = (uint32_t)reach;
+    grants->words += 4;
+    note_granted(grants, role, start, length, reach);
+}
+
+void make_grants(struct grants *grants)
+{
+    uint32_t any = below(65), count = ONE_OF(0, 1, 2, 3, 4, 6, 10, any, any, 63, 64);
+    grants->words = 0;
+    memset(grants->count, 0, sizeof grants->count);
+    while (count-- > 0)
+        add_grant(grants);
+}
+
+/* More than 64, or no whole number of them, or one that breaks a rule. */
+void break_grants(struct grants *grants)
+{
+    static const uint32_t fine[4] = { 2, 0, 0x1000, 1 };
+    size_t kept = grants->words;
+    if (kept == 0 || once_in(4)) {
+        size_t wanted = once_in(2) ? kept + 1 + below(3) : 4 * (65 + below(3));
+        for (size_t i = kept; i < wanted; i++)
+            grants->word[i] = fine[i % 4];
+        grants->words = wanted;
+        return;
+    }
+    uint32_t *word = grants->word + 4 * below((uint32_t)kept / 4);
+    switch (below(4)) {
+    case 0:
+        word[0] = ONE_OF(0, 4, 0x101, 0x80000001, chance());
+        break;
+    case 1:
+        word[1] = (uint32_t)(memory_end - word[2]) + 1;
+        break;
+    case 2:
+        word[2] = (uint32_t)(memory_end - word[1]) + 1;
+        break;
+    default:
+        word[3] = 0;
+    }
+}
+
+/* ---- values */
+
+static int has_value(size_t cell, const struct grants *grants)
+{
+    return role_of(cell) == NO_ROLE || grants->count[role_of(cell)] > 0;
+}
+
+static uint32_t value_for(size_t cell, const struct grants *grants)
+{
+    uint32_t role = role_of(cell);
+    if (role == NO_ROLE)
+        return value_without_address(cell, chance());
+    uint32_t value = value_with_address(cell, grants->granted[role][below(grants->count[role])]);
+    return cell == 89 || cell == 96 ? value | (chance() & 0xc0000000) : value;
+}
+
+/* ---- batches */
+
+static void add_word(struct batch *batch, uint32_t word, int what)
+{
+    batch->word[batch->words] = word;
+    batch->what[batch->words++] = what;
+}
+
+struct group {
+    size_t first, size;
+};
+
+static struct group some_group(void)
+{
+    switch (below(3)) {
+    case 0:
+        return (struct group){ 0, 4 };
+    case 1:
+        return (struct group){ STAGES_AT + 2 * below(16), 2 };
+    default:
+        return (struct group){ SAMPLES_AT + 3 * below(16), 3 };
+    }
+}
+
+static void add_3d(struct batch *batch, const struct grants *grants, size_t left)
+{
+    struct group group = some_group();
+    uint32_t count = ONE_OF(1, 1, 2, 2, 3, 4, 6, 1 + below(112), 112);
+    if (count + 2 > left)
+        count = (uint32_t)left - 2;
+    add_word(batch, (count + 1) << 16 | 0x043c, IS_HEADER);
+    add_word(batch, reg_at(group.first).setting, IS_SETTING);
+    while (count > 0) {
+        size_t cell = group.first + below((uint32_t)group.size);
+        if (!has_value(cell, grants))
+            continue;
+        add_word(batch, reg_at(cell).sub_address << 24 | value_for(cell, grants), (int)cell);
+        count--;
+    }
+}
+
+static void add_run(struct batch *batch, const struct grants *grants, size_t left)
+{
+    size_t cell = CELLS_3D + below(CELLS - CELLS_3D), most = row_from(cell) < left ? row_from(cell) : left - 1, count = 0;
+    while (count < most && has_value(cell + count, grants))
+        count++;
+    if (count == 0)
+        return;
+    count = once_in(2) ? count : 1 + below((uint32_t)count);
+    add_word(batch, (uint32_t)count << 16 | reg_at(cell).offset, IS_HEADER);
+    for (size_t i = 0; i < count; i++)
+        add_word(batch, value_for(cell + i, grants), (int)(cell + i));
+}
+
+void make_batch(struct batch *batch, const struct grants *grants, size_t most)
+{
+    batch->words = 0;
+    while (most - batch->words >= 3) {
+        if (once_in(2))
+            add_3d(batch, grants, most - batch->words);
+        else
+            add_run(batch, grants, most - batch->words);
+    }
+}
+
+/* A word that stands where it stood but is no longer right, in a way that its own reasons name. */
+static uint32_t spoilt(uint32_t word, int what)
+{
+    if (what == IS_HEADER)
+        return once_in(2) ? word ^ (uint32_t)1 << below(16)
+                          : (word & 0xffff) | ONE_OF(0, 1, 2, 3, 8, 113, 114, 0x100, 0x8000, 0xffff) << 16;
+    uint32_t any = chance();
+    if (what == IS_SETTING)
+        return ONE_OF(word ^ (uint32_t)1 << any % 32, 0x00000000, 0x00020000 | any << 24, 0x01010000, 0x00030000, 0xfe100000);
+    uint32_t must_be_clear = reg_at((size_t)what).must_be_clear;
+    int in_3d = what < CELLS_3D;
+    switch (below(5)) {
+    case 0:
+        return in_3d ? (word & 0xffffff) | ONE_OF(0x3f, 0x50, 0x51, 0x52, 0x30, 0x31, 0x32, 0x33, any >> 24) << 24 : any;
+    case 1:
+        return word | (must_be_clear & (uint32_t)1 << any % 32);
+    case 2:
+        return word | (must_be_clear & any);
+    case 3: /* other bits, so that what is refused is the value or the address */
+        return word ^ (any & ~must_be_clear & (in_3d ? 0xffffff : 0xffffffff));
+    default: /* a little more or less than a limit or the edge of a grant */
+        return word + ONE_OF(1, 0x10, 0x40, 0x1000, 0x10000, 0xffffffff, 0xfffffff0);
+    }
+}
+
+/* Any place, or one where a reader that goes by pieces would begin a new one. */
+static size_t some_place(size_t words)
+{
+    size_t border = ONE_OF(113, 114, 115, 128, 256, 512, 1024, 2048, 4096, 8192), place = border - 1 + below(3);
+    return place < words && once_in(2) ? place : below((uint32_t)words);
+}
+
+static void remove_word(struct batch *batch, size_t place)
+{
+    batch->words--;
+    memmove(batch->word + place, batch->word + place + 1, (batch->words - place) * sizeof *batch->word);
+}
+
+void damage_batch(struct batch *batch)
+{
+    if (batch->words == 0)
+        return;
+    size_t place = some_place(batch->words);
+    uint32_t *word = batch->word + place;
+    switch (below(10)) {
+    case 0:
+        *word ^= (uint32_t)1 << below(32);
+        break;
+    case 1:
+        *word = chance();
+        break;
+    case 2:
+        *word = batch->word[below((uint32_t)batch->words)];
+        break;
+    case 3:
+        batch->words = place;
+        break;
+    case 4:
+        remove_word(batch, place);
+        break;
+    default:
+        *word = spoilt(*word, batch->what[place]);
+    }
+}
+
+/* ---- states */
+
+void make_state(uint32_t *state, const struct grants *grants, uint32_t every)
+{
+    memset(state, 0, STATE_BYTES);
+    for (size_t cell = 0; cell < CELLS; cell++)
+        if (once_in(every) && has_value(cell, grants)) {
+            state[cell] = value_for(cell, grants);
+            state[CELLS + cell] = 1;
+        }
+}
+
+void damage_state(uint32_t *state)
+{
+    size_t cell = below(CELLS);
+    uint32_t any = chance(), bit = below(32);
+    switch (below(6)) {
+    case 0:
+        state[CELLS + cell] ^= (uint32_t)1 << bit;
+        break;
+    case 1:
+        state[cell] ^= (uint32_t)1 << bit;
+        break;
+    case 2:
+        state[cell] = any;
+        break;
+    case 3:
+        state[CELLS + cell] = any >> bit;
+        break;
+    default: /* a mark, and a value that its register may not hold */
+        state[CELLS + cell] = 1;
+        state[cell] = spoilt(state[cell], (int)cell);
+        if (cell < CELLS_3D && !once_in(4))
+            state[cell] &= 0xffffff;
+    }
+}

@@ -1,0 +1,37 @@
+/* Grants, batches and states by chance: right ones, and right ones damaged in one place. */
+#ifndef MAKING_H
+#define MAKING_H
+
+#include "words.h"
+
+enum { MOST_GRANT_WORDS = 4 * 70, MOST_MADE_WORDS = LONGEST_WORDS };
+
+/* The words of a grant list; for each role some addresses that it grants and that a register can hold. */
+struct grants {
+    uint32_t word[MOST_GRANT_WORDS];
+    size_t words;
+    uint32_t granted[4][2 * MOST_GRANT_WORDS];
+    uint32_t count[4];
+};
+
+/* The words of a batch, and what each of them is: a cell's value, a header or a setting. */
+enum { IS_HEADER = -1, IS_SETTING = -2 };
+
+struct batch {
+    uint32_t word[MOST_MADE_WORDS];
+    int what[MOST_MADE_WORDS];
+    size_t words;
+};
+
+void make_grants(struct grants *grants);
+void break_grants(struct grants *grants);
+
+/* At most `most` words, and not many fewer. */
+void make_batch(struct batch *batch, const struct grants *grants, size_t most);
+void damage_batch(struct batch *batch);
+
+/* One cell in `every` is marked. */
+void make_state(uint32_t *state, const struct grants *grants, uint32_t every);
+void damage_state(uint32_t *state);
+
+#endif
