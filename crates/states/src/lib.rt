@@ -24,21 +24,15 @@ fn one(mark: u32) -> usize
     1
 }
 
-// Each mark is 0 or 1 and an unmarked value is 0. There is no early way out, so that the loop becomes one over vectors; five cells go
-// before it, since 96 are a whole number of vectors.
+// Each mark is 0 or 1 and an unmarked value is 0. There is no early way out, so that the loop becomes one over vectors.
 pub fn well_formed(state: &[u32]) -> bool
     ensures formed { λ r. ⌜ r ≡ wellFormed (now (state .entry)) ⌝ }
 {
     if state.len() != 202 {
         return false;
     }
-    let none: u32 = 0;
-    let one = none | fault(state[0], state[101]);
-    let two = one | fault(state[1], state[102]);
-    let three = two | fault(state[2], state[103]);
-    let four = three | fault(state[3], state[104]);
-    let mut bad = four | fault(state[4], state[105]);
-    let mut c = 5;
+    let mut bad: u32 = 0;
+    let mut c = 0;
     while c < 101 {
         bad = bad | fault(state[c], state[101 + c]);
         c += 1;
