@@ -1,66 +1,36 @@
--- One word more than a state has, and one more than a grant list may have, are enough to judge by: what is longer is refused as it is.
--- Room for the longest batch is enough to write in.
+-- One word more than a grant list may have, and room for the longest batch, are enough for the writer; and its words go into the output.
+-- Places are small.
 -- Assumes nothing.
 use mathlib.Core.Path.{_≡_, refl, sym, ap, _∙_}
-use mathlib.Core.Bool.{Bool, false}
+use mathlib.Core.Bool.{Bool, true, false}
 use mathlib.Core.List.{List, _++_, append-assoc}
-use Prim.Native.Nat.{ℕ, _+_, _/_, _≤_, _<_, min}
+use Prim.Native.Nat.{ℕ, _/_, _≤_, _<_, min}
 use native.Mathlib.Omega.{arith}
 use native.Mathlib.Decide.{decLe}
-use borrow.Author.Tests.{ne-eqb, lt-leb, le-leb}
-use lib.Dec.{T, leb}
+use borrow.Author.Tests.{lt-leb, le-leb}
+use lib.Dec.{leb}
 use lib.ListN.{length, take, drop, length-append}
-use lib.Seq.{take-all, take-at, length-take-le}
+use lib.Seq.{take-at}
 use Rattle.laws.specs.Lists.{over}
 use Rattle.laws.proofs.Stores.{length-over}
-use Rattle.laws.proofs.Tests.{fails-of}
 use Rattle.meaning.specs.declared.Answer.{Answer}
 use Rattle.meaning.specs.Words.{bytesOf}
 use Rattle.meaning.specs.Grants.{grantsFine}
-use Rattle.meaning.specs.State.{stateWords, wellFormed}
-use Rattle.meaning.specs.Answers.{badState, badGrants, answer, provided}
+use Rattle.meaning.specs.State.{wellFormed}
+use Rattle.meaning.specs.Answers.{badState, answer}
 use Rattle.meaning.specs.Writer.{written, writeAnswer, writeLeaves}
-use Rattle.meaning.specs.Lister.{listAnswer, listLeaves}
+use Rattle.meaning.specs.Lister.{listAnswer}
 use Rattle.meaning.specs.Calls.{mostBytes}
 use Rattle.meaning.specs.Reasons.{Writes, Lists}
 use Rattle.meaning.proofs.Bytes.{settle-done}
 use Rattle.meaning.proofs.Writing.{at-most-184}
 use Rattle.meaning.proofs.Outputs.{write-told, list-told, at-most-2568}
-use Rattle.grants.proofs.Few.{grantRoom, long-grants}
+use Rattle.grants.proofs.Few.{grantRoom, first-refused, first-fine}
 use Rattle.words.specs.Copies.{bytesLeft}
 use Rattle.words.proofs.Held.{all-back}
 
--- ---- the first n of what is judged
+-- ---- places are small
 
--- f tells nothing of a list that fails the test, and a list of n or more fails it: the first n are enough
-module _ (test : List ℕ → Bool) (n : ℕ) (long : (l : List ℕ) → n ≤ length l → test l ≡ false) where
-  first-enough : {A : Type 0} (f : List ℕ → A) (z : A) → ((l : List ℕ) → test l ≡ false → f l ≡ z) → (l : List ℕ) → f (take n l) ≡ f l
-  first-enough f z fails l = elim (decLe (length l) n) [
-    | yes h ↦ ap f (take-all n l h)
-    | no h ↦
-        let cut : length (take n l) ≡ n = length-take-le n l (omega arith) in
-        fails (take n l) (long (take n l) (omega arith)) ∙ sym (fails l (long l (omega arith)))
-  ]
-
--- one word more than a state has
-abbrev pub stateRoom : ℕ
-stateRoom = stateWords + 1
-
-long-state : (st : List ℕ) → stateRoom ≤ length st → wellFormed st ≡ false
-unfolding wellFormed
-long-state st h = let n : length st ≡ stateWords → ⊥ = λ e. omega arith in rw (ne-eqb (length st) stateWords n)
-
--- ---- the lister
-
-pub list-enough : (st out : List ℕ)
-    → (listAnswer (take stateRoom st) (length out) ≡ listAnswer st (length out)) × (listLeaves (take stateRoom st) out ≡ listLeaves st out)
-unfolding listAnswer listLeaves
-list-enough st out = (
-  first-enough wellFormed stateRoom long-state (λ l. listAnswer l (length out)) (answer badState 0) (λ l e. rw e) st,
-  first-enough wellFormed stateRoom long-state (λ l. listLeaves l out) out (λ l e. rw e) st,
-)
-
--- a place is small
 pub list-place : (st : List ℕ) (room : ℕ) → listAnswer st room .place ≤ mostBytes
 list-place st room = small (list-told st room)
   where
@@ -68,12 +38,6 @@ list-place st room = small (list-told st room)
     small (Lists.bad-state s) = omega arith
     small (Lists.no-room s l) = omega arith
     small (Lists.done s l) = omega (arith, at-most-2568 st)
-
--- ---- the writer
-
--- the words of the longest batch
-abbrev pub batchRoom : ℕ
-batchRoom = 184
 
 pub write-place : (st gs : List ℕ) (room : ℕ) → writeAnswer st gs room .place ≤ mostBytes
 write-place st gs room = small (write-told st gs room)
@@ -84,6 +48,12 @@ write-place st gs room = small (write-told st gs room)
     small (Writes.not-writable s f low bad before) = omega arith
     small (Writes.no-room s f fine l) = omega arith
     small (Writes.done s f fine l) = omega (arith, at-most-184 st)
+
+-- ---- the answer on what the arrays hold
+
+-- the words of the longest batch
+abbrev pub batchRoom : ℕ
+batchRoom = 184
 
 -- more room than the longest batch needs is no more room
 same-room : (st : List ℕ) (room : ℕ) → leb (length (written st)) (min batchRoom room) ≡ leb (length (written st)) room
@@ -101,18 +71,26 @@ room-enough : (st gs : List ℕ) (room : ℕ) → writeAnswer st gs (min batchRo
 unfolding writeAnswer
 room-enough st gs room = rw (same-room st room)
 
--- the answer on what the arrays hold is the answer on the buffers
-pub write-enough : (st gs : List ℕ) (room : ℕ) → writeAnswer (take stateRoom st) (take grantRoom gs) (min batchRoom room) ≡ writeAnswer st gs room
+-- the first words of a grant list are enough
+grants-enough : (st gs : List ℕ) (room : ℕ) → writeAnswer st (take grantRoom gs) room ≡ writeAnswer st gs room
 unfolding writeAnswer
-write-enough st gs room =
-    let s = take stateRoom st in
-    room-enough s (take grantRoom gs) room
-    ∙ first-enough grantsFine grantRoom long-grants (λ l. writeAnswer s l room) (provided (wellFormed s) badState (answer badGrants 0)) (λ l e. rw e) gs
-    ∙ first-enough wellFormed stateRoom long-state (λ l. writeAnswer l gs room) (answer badState 0) (λ l e. rw e) st
+grants-enough st gs room = by (grantsFine (take grantRoom gs)) refl
+  where
+    by : (b : Bool) → grantsFine (take grantRoom gs) ≡ b → writeAnswer st (take grantRoom gs) room ≡ writeAnswer st gs room
+    by true e = ap (λ (l : List ℕ). writeAnswer st l room) (first-fine gs e)
+    by false e = rw (e, first-refused gs e)
+
+-- the answer on what the arrays hold is the answer on the buffers
+pub write-enough : (st gs : List ℕ) (room : ℕ) {s g : List ℕ} {r : ℕ} {a : Answer} → s ≡ st → g ≡ take grantRoom gs → r ≡ min batchRoom room → a ≡ writeAnswer s g r
+    → a ≡ writeAnswer st gs room
+write-enough st gs room es eg er e = e ∙ rw (es, eg, er) (room-enough st (take grantRoom gs) room ∙ grants-enough st gs room)
+
+pub unformed : (st gs : List ℕ) (room : ℕ) → wellFormed st ≡ false → answer badState 0 ≡ writeAnswer st gs room
+unfolding writeAnswer
+unformed st gs room e = rw e
 
 -- what a success tells
 record Wrote (st : List ℕ) (room place : ℕ) : Type 0 where
-  formed : T (wellFormed st)
   count : place ≡ length (written st)
   fits : length (written st) ≤ room
 
@@ -124,19 +102,7 @@ wrote st gs {room} e z = rw e (done (write-told st gs room) (sym (ap (λ (x : An
     done (Writes.bad-grants s f) x = absurd (omega arith)
     done (Writes.not-writable s f low bad before) x = absurd (omega arith)
     done (Writes.no-room s f fine l) x = absurd (omega arith)
-    done (Writes.done s f fine l) x = record { formed = s; count = refl; fits = l }
-
--- a state that is well-formed in its array is there whole
-whole : (st : List ℕ) → T (wellFormed (take stateRoom st)) → take stateRoom st ≡ st
-whole st t = elim (decLe (length st) stateRoom) [
-  | yes h ↦ take-all stateRoom st h
-  | no h ↦ absurd (fails-of (long-state (take stateRoom st) (omega (arith, length-take-le stateRoom st (omega arith)))) t)
-]
-
--- so that its words are those of the state
-pub same-words : (st gs : List ℕ) (room : ℕ) {held : List ℕ} {a : Answer} → held ≡ take stateRoom st → a ≡ writeAnswer held gs room → a .reason ≡ 0
-    → written held ≡ written st
-same-words st gs room {held} h e z = ap written (h ∙ whole st (rw h at (wrote held gs e z .formed)))
+    done (Writes.done s f fine l) x = record { count = refl; fits = l }
 
 -- ---- the words in their array, and then in the output
 

@@ -11,10 +11,10 @@ ghost use Rattle.meaning.specs.Lister.{listAnswer, listLeaves};
 ghost use Rattle.meaning.specs.Calls as calls;
 use meaning::Answer;
 
-// The room of the arrays below: one word more than a state has, so that a longer one is refused in its turn without being held whole;
-const STATE_ROOM: usize = 203;
+// The room of the arrays below: the words of a state, since no other is looked at;
+const STATE_ROOM: usize = 202;
 
-// one word more than a grant list may have, for the same reason;
+// one word more than a grant list may have, so that a longer one is refused in its turn without being held whole;
 const GRANT_ROOM: usize = 257;
 
 // and as many words as the longest batch that is written.
@@ -63,13 +63,19 @@ fn write(state: &[u8], grants: &[u8], out: &mut [u8]) -> Answer
     ensures answer { λ r. ⌜ r ≡ writeAnswer (wordsOf (now (state .entry))) (wordsOf (now (grants .entry))) (length (now (out .entry)) / 4) ⌝ }
     ensures bytes { λ r. ⌜ now (out .exit) ≡ settle r (over (bytesOf (written (wordsOf (now (state .entry))))) (now (out .entry))) (now (out .entry)) ⌝ }
 {
+    if state.len() / 4 != STATE_ROOM {
+        return Answer {
+            reason: 1,
+            place: 0,
+        };
+    }
     let mut state_words = [0u32; STATE_ROOM];
-    let s = words::words_from(state, 0, &mut state_words);
+    words::words_from(state, 0, &mut state_words);
     let mut grant_words = [0u32; GRANT_ROOM];
     let g = words::words_from(grants, 0, &mut grant_words);
     let mut out_words = [0u32; BATCH_ROOM];
     let room = numbers::lesser(BATCH_ROOM, out.len() / 4);
-    let answer = writer::write(&state_words[..s], &grant_words[..g], &mut out_words[..room]);
+    let answer = writer::write(&state_words, &grant_words[..g], &mut out_words[..room]);
     if answer.reason == 0 {
         let n = answer.place;
         words::bytes_from(&out_words[..n], out);
@@ -82,9 +88,15 @@ fn list(state: &[u8], out: &mut [u8]) -> Answer
     ensures answer { λ r. ⌜ r ≡ listAnswer (wordsOf (now (state .entry))) (length (now (out .entry))) ⌝ }
     ensures bytes { λ _. ⌜ now (out .exit) ≡ listLeaves (wordsOf (now (state .entry))) (now (out .entry)) ⌝ }
 {
-    let mut state_words = [0u32; STATE_ROOM];
-    let n = words::words_from(state, 0, &mut state_words);
-    lister::list(&state_words[..n], out)
+    if state.len() / 4 != STATE_ROOM {
+        return Answer {
+            reason: 1,
+            place: 0,
+        };
+    }
+    let mut own = [0u32; STATE_ROOM];
+    words::words_from(state, 0, &mut own);
+    lister::list(&own, out)
 }
 
 // Reads a batch: 13, 1, 2, then what the first bad word gives, or 10; else 0 and the batch's length in words. The state is changed only if

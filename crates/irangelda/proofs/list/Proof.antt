@@ -1,16 +1,25 @@
--- The lister is lent what the array holds of the state, which is enough.
+-- A state that is not whole is not listed; any other is in its array.
 -- Assumes nothing.
-use mathlib.Core.Path.{ap, _∙_}
+use mathlib.Core.Path.{sym, ap, _∙_}
 use mathlib.Core.List.{List}
 use Prim.Native.Nat.{ℕ}
 use borrow.Author.Needs.{needs}
 use lib.ListN.{length, replicate}
 use Rattle.meaning.specs.Words.{wordsOf}
+use Rattle.meaning.specs.State.{stateWords}
 use Rattle.meaning.specs.Lister.{listAnswer, listLeaves}
-use Rattle.words.proofs.Held.{within-held, front-length, front}
-use Rattle.irangelda.proofs.Enough.{stateRoom, list-enough}
+use Rattle.meaning.proofs.Bytes.{length-words}
+use Rattle.words.proofs.Held.{all-held}
+use Rattle.lister.proofs.Listing.{bad-state}
+use Rattle.windows.proofs.Answers.{not-whole}
 use Rattle.irangelda.proofs.list.Statement.{statement}
 use Rattle.irangelda.proofs.list.Tie as tie
+
+returns : tie.Need-returns
+returns c =
+    let a = c .before .before .before .args in
+    let st = a .state .now in
+    bad-state (wordsOf st) (a .out .now) (not-whole (wordsOf st) (λ e. c .if1 .taken (sym (length-words st) ∙ e)))
 
 slice-aggregate-words-from : tie.Need-slice-aggregate-words-from
 slice-aggregate-words-from c = search needs
@@ -18,15 +27,8 @@ slice-aggregate-words-from c = search needs
 words-from-requires : tie.Need-words-from-requires
 words-from-requires c κs = search needs
 
-array-share-prefix-state-words : tie.Need-array-share-prefix-state-words
-array-share-prefix-state-words c =
-    let w = c .before .words-from in
-    within-held (c .before .before .before .before .before .args .state .now) 0 (replicate stateRoom 0) (w .ensures .0) (w .ensures .1)
-
 slice-aggregate-list : tie.Need-slice-aggregate-list
-slice-aggregate-list c =
-    let w = c .before .before .words-from in
-    front-length (c .before .before .before .before .before .before .args .state .now) 0 (replicate stateRoom 0) (w .ensures .0) (w .ensures .1)
+slice-aggregate-list c = search needs
 
 list-requires : tie.Need-list-requires
 list-requires c κs = search needs
@@ -34,27 +36,27 @@ list-requires c κs = search needs
 same-length : tie.Need-same-length
 same-length c = search needs
 
-returns : tie.Need-returns
-returns c =
+returns-2 : tie.Need-returns-2
+returns-2 c =
     let l = c .before .before in
     let w = l .before .before .before .before in
-    let a = w .before .before .before .before .args in
-    let st = wordsOf (a .state .now) in
+    let e = w .before .before in
+    let a = e .before .before .before .args in
+    let st = a .state .now in
     let out = a .out .now in
-    let held = front (a .state .now) 0 (replicate stateRoom 0) (w .words-from .ensures .0) (w .words-from .ensures .1) in
-    let same = list-enough st out in (
-      l .list .ensures .0 ∙ ap (λ (s : List ℕ). listAnswer s (length out)) held ∙ same .0,
-      l .list .ensures .1 ∙ ap (λ (s : List ℕ). listLeaves s out) held ∙ same .1,
+    let held = all-held st (replicate stateWords 0) (length-words st ∙ e .if1 .left) (w .words-from .ensures .1) in (
+      l .list .ensures .0 ∙ ap (λ (s : List ℕ). listAnswer s (length out)) held,
+      l .list .ensures .1 ∙ ap (λ (s : List ℕ). listLeaves s out) held,
     )
 
 pub list-spec : {M : Type 1} → statement M
 list-spec =
     tie.close
     (tie.spec
+    returns
     slice-aggregate-words-from
     words-from-requires
-    array-share-prefix-state-words
     slice-aggregate-list
     list-requires
     same-length
-    returns)
+    returns-2)
