@@ -11,18 +11,17 @@ use Rattle.meaning.specs.declared.SubAddress.{SubAddress}
 use Rattle.meaning.specs.declared.VideoOffset.{VideoOffset}
 use Rattle.meaning.specs.declared.Found.{Found}
 use Rattle.meaning.specs.declared.Found.the-variants.{At, Missing}
-use Rattle.meaning.specs.declared.Kind.{Kind}
 use Rattle.meaning.specs.declared.Kind.the-variants.{Parameter, Video}
 use Rattle.meaning.specs.Words.{paraType, paraSubType, subAddress, data24}
 use Rattle.meaning.specs.Registers.{cells, cell, registerAt, find3D, findVideo}
 use Rattle.meaning.specs.Grants.{Terms}
 use Rattle.meaning.specs.State.{apply, applyAll, writeTo}
 use Rattle.meaning.specs.Positions.{after, goes, carries}
-use Rattle.meaning.specs.Answers.{badCount, noRegister, success}
+use Rattle.meaning.specs.Answers.{noRegister, success}
 use Rattle.meaning.specs.Reader.{valueReason, foundReason, wordReason}
 use Rattle.meaning.proofs.Table.{Of}
 use Rattle.meaning.proofs.Stored.{Wide, found-3D, data-small}
-use Rattle.bodies.specs.Passes.{Passed, passed, answerOf, orElse, stored, bodyFrom}
+use Rattle.bodies.specs.Passes.{Passed, passed, answerOf, orElse, bodyFrom}
 
 -- ---- a reason that is 0, and one that is not
 

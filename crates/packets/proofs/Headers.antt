@@ -1,9 +1,9 @@
 -- What a setting and a header tell, as the code takes them apart.
 -- Assumes nothing.
 use mathlib.Core.Path.{_≡_, refl, sym, ap, _∙_}
-use mathlib.Core.Bool.{Bool, true, false}
+use mathlib.Core.Bool.{true, false}
 use mathlib.Core.List.{List, _∷_}
-use Prim.Native.Nat.{ℕ, zero, suc, _+_, _*_, _-_, _/_, _%_, _≤_, _<_, _^_, min}
+use Prim.Native.Nat.{ℕ, suc, _+_, _*_, _-_, _/_, _%_, _≤_, _<_, _^_, min}
 use native.Mathlib.Omega.{arith}
 use native.Mathlib.Decide.{ℕ-discrete}
 use borrow.Author.Tests.{eq-eqb, ne-eqb, le-leb, lt-leb}
@@ -24,7 +24,7 @@ use Rattle.meaning.specs.Positions.{after, goes, carries}
 use Rattle.meaning.specs.Answers.{badOffset, badCount, badSetting, success}
 use Rattle.meaning.specs.Reader.{unless, headerReason, wordReason}
 use Rattle.registers.specs.Names.{rowFrom}
-use Rattle.bodies.specs.Passes.{passed, answerOf, bodyFrom}
+use Rattle.bodies.specs.Passes.{answerOf, bodyFrom}
 use Rattle.packets.proofs.Packets.{taken-words}
 use Rattle.packets.proofs.Runs.{no-register, no-word, too-long, stays, of-header}
 use Rattle.packets.proofs.Settings.{low-clear, low-set}

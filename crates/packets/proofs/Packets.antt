@@ -7,7 +7,6 @@ use Prim.Native.Nat.{ℕ, zero, suc, _+_, _-_, _≤_, _<_, min}
 use native.Mathlib.Omega.{arith}
 use native.Mathlib.Decide.{decLt}
 use borrow.Author.Tests.{eq-eqb, ne-eqb, le-leb, lt-leb}
-use lib.Dec.{leb, eqb}
 use lib.ListN.{length, getD, take, drop, take-append-drop, length-drop, drop-of-length-le}
 use lib.Seq.{take-all, length-take-le, drop-drop}
 use Rattle.laws.proofs.Rest.{rest}
@@ -16,8 +15,8 @@ use Rattle.meaning.specs.declared.Kind.the-variants.{Setting}
 use Rattle.meaning.specs.declared.Answer.{Answer}
 use Rattle.meaning.specs.Words.{count}
 use Rattle.meaning.specs.Grants.{Terms}
-use Rattle.meaning.specs.State.{Write, applyAll, writeTo}
-use Rattle.meaning.specs.Positions.{kindOf, after, nextKind, nextLeft, goes, carries, writeAt, writesFrom, writesOf}
+use Rattle.meaning.specs.State.{applyAll}
+use Rattle.meaning.specs.Positions.{kindOf, after, nextKind, nextLeft, goes, writeAt, writesFrom, writesOf}
 use Rattle.meaning.specs.Answers.{success, endsInside, answer}
 use Rattle.meaning.specs.Reader.{headerReason, wordReason, judge, follow, ended, run, batchAnswer}
 use Rattle.meaning.proofs.States.{applied-append}

@@ -11,8 +11,6 @@ use native.Mathlib.Decide.{decLt, ℕ-discrete}
 use lib.Dec.{T, leb, eqb, leb→le}
 use lib.ListN.{length, take, drop, take-append-drop, length-drop, length-take}
 use lib.Seq.{drop-drop}
-use Rattle.laws.proofs.Tests.{holds-of}
-use Rattle.meaning.specs.declared.Cell.{Cell}
 use Rattle.meaning.specs.declared.VideoOffset.{VideoOffset}
 use Rattle.meaning.specs.declared.Found.{Found}
 use Rattle.meaning.specs.declared.Found.the-variants.{At, Missing}
@@ -24,13 +22,13 @@ use Rattle.meaning.specs.Registers.{findVideo, isFound}
 use Rattle.meaning.specs.Grants.{Terms}
 use Rattle.meaning.specs.Batch.{offset3D, most3D}
 use Rattle.meaning.specs.Positions.{kindOf, after}
-use Rattle.meaning.specs.Answers.{success, endsInside}
+use Rattle.meaning.specs.Answers.{success}
 use Rattle.meaning.specs.Reader.{runIn, reason3D, reasonVideo, headerReason, wordReason}
 use Rattle.meaning.proofs.Packets.{count-fine, run-header-fine}
 use Rattle.registers.specs.Names.{rowFrom}
 use Rattle.registers.proofs.Names.{row-run, row-cells}
 use Rattle.bodies.specs.Passes.{Passed, passed, answerOf, orElse, stored}
-use Rattle.bodies.proofs.Bodies.{else-on, else-stop}
+use Rattle.bodies.proofs.Bodies.{else-stop}
 use Rattle.packets.specs.Packets.{ends, packetsFrom}
 use Rattle.packets.proofs.Packets.{between, halted, header-read, word-read}
 

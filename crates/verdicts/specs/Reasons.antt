@@ -1,16 +1,11 @@
--- What the contracts say beside the table: a role's grants kept as spans, the two scalers, and a run of video registers, which
--- proofs/Headers ties to the whole.
+-- What the contracts say beside the table: a role's grants kept as spans, and the two scalers.
 -- Assumes nothing.
 use mathlib.Core.Path.{_≡_}
-use mathlib.Core.Bool.{Bool, true, false, _&&_}
+use mathlib.Core.Bool.{Bool, true, false}
 use mathlib.Core.List.{List}
 use Prim.Native.Nat.{ℕ}
-use lib.Dec.{leb}
-use Rattle.meaning.specs.declared.VideoOffset.{VideoOffset}
-use Rattle.meaning.specs.Registers.{Register, any, noAddress, memoryLocation, scaled, findVideo, isFound}
+use Rattle.meaning.specs.Registers.{Register, any, noAddress, memoryLocation, scaled}
 use Rattle.meaning.specs.Grants.{Terms, granted}
-use Rattle.meaning.specs.Answers.{badOffset, badCount, success}
-use Rattle.meaning.specs.Reader.{unless, runIn}
 use Rattle.grants.specs.Spans.{coveredBy}
 
 -- a role is granted what the spans cover

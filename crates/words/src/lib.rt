@@ -1,7 +1,7 @@
 // Words of 32 bits out of bytes and into bytes, the lowest byte first.
 ghost use mathlib.Core.Path.{_≡_};
 ghost use mathlib.Core.List.{[], _∷_};
-ghost use Prim.Native.Nat.{_≤_, _<_, _*_, _+_, _-_, min};
+ghost use Prim.Native.Nat.{_≤_, _<_, _*_, _+_, _-_};
 ghost use lib.ListN.{length, getD};
 ghost use lib.Seq.{sets};
 ghost use Rattle.meaning.specs.Words.{wordsOf, bytesOf};

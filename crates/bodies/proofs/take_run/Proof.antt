@@ -14,7 +14,6 @@ use Rattle.meaning.specs.Grants.{Terms}
 use lib.ListN.{length, getD, drop}
 use Prim.Native.Nat.{_+_, _-_, _≤_, _<_, _^_}
 use mathlib.Core.Path.{_≡_, sym, _∙_}
-use borrow.Author.Needs.{needs}
 use native.Mathlib.Omega.{arith}
 use Rattle.bodies.proofs.take_run.Statement.{statement}
 use Rattle.bodies.proofs.take_run.Tie as tie

@@ -7,7 +7,6 @@ use Rattle.meaning.specs.declared.Kind.the-variants.{Setting}
 use lib.ListN.{length, drop}
 use Prim.Native.Nat.{_-_, _≤_}
 use mathlib.Core.Path.{_≡_, refl, sym, _∙_}
-use borrow.Author.Needs.{needs}
 use native.Mathlib.Omega.{arith}
 use Rattle.packets.proofs.read_packets.Statement.{statement}
 use Rattle.packets.proofs.read_packets.Tie as tie

@@ -1,8 +1,6 @@
 use Rattle.packets.proofs.Packets.{taken-words, closed-words, closed-state}
 use Rattle.bodies.proofs.Named.{row-room}
 use Rattle.grants.proofs.Spans.{held-2, held-3}
-use lib.Seq.{length-take-le}
-use lib.ListN.{length-drop}
 use borrow.Author.Tests.{ltb-true, ltb-false}
 use native.Mathlib.Omega.{arith}
 use borrow.Author.Needs.{needs}

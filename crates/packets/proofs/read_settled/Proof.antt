@@ -3,7 +3,6 @@ use Rattle.packets.proofs.Packets.{no-words, closed-words, closed-state
 use Rattle.packets.proofs.Headers.{with-setting}
 use borrow.Author.Tests.{ltb-true, ltb-false}
 use Rattle.bodies.proofs.Bodies.{as-answer, as-state}
-use mathlib.Core.Path.{ap, _∙_}
 use borrow.Author.Needs.{needs}
 use Rattle.packets.proofs.read_settled.Statement.{statement}
 use Rattle.packets.proofs.read_settled.Tie as tie

@@ -6,8 +6,7 @@ use Rattle.meaning.specs.Words.{wordsOf}
 use Rattle.laws.proofs.Arms.{told-true, told-false}
 use lib.ListN.{length, replicate}
 use native.Mathlib.Omega.{arith}
-use Prim.Native.Nat.{ℕ, _/_}
-use mathlib.Core.List.{List}
+use Prim.Native.Nat.{_/_}
 use mathlib.Core.Bool.{true}
 use mathlib.Core.Path.{_≡_, sym, ap, _∙_}
 use borrow.Author.Needs.{needs}
