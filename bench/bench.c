@@ -4,6 +4,7 @@
  * can be taken off). bench/run counts the instructions from outside.
  */
 #include "../include/irangelda.h"
+#include "../tests/c/nothing.h"
 #include "careful.h"
 #include "tuned.h"
 #include <stdio.h>
@@ -20,18 +21,6 @@ struct calls {
     writes *write;
     lists *list;
 };
-
-static uint64_t nothing_of_six(const uint8_t *a, size_t a_len, const uint8_t *b, size_t b_len, uint8_t *c, size_t c_len)
-{
-    (void)a, (void)a_len, (void)b, (void)b_len, (void)c, (void)c_len;
-    return 0;
-}
-
-static uint64_t nothing_of_four(const uint8_t *a, size_t a_len, uint8_t *b, size_t b_len)
-{
-    (void)a, (void)a_len, (void)b, (void)b_len;
-    return 0;
-}
 
 static const struct calls all_calls[] = {
     { "ours", irangelda_read, irangelda_write, irangelda_list },

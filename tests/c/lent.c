@@ -4,6 +4,7 @@
 #include "../../bench/tuned.h"
 #include "../../include/irangelda.h"
 #include "check.h"
+#include "nothing.h"
 #include <stdio.h>
 #include <stdlib.h>
 #include <string.h>
@@ -77,19 +78,6 @@ static int same(const struct place *place, struct bytes bytes, size_t from)
 }
 
 /* ---- stacks */
-
-/* Says nothing and does nothing: shows how much of the stack is used before a call begins. */
-static uint64_t nothing_of_six(const uint8_t *a, size_t a_len, const uint8_t *b, size_t b_len, uint8_t *c, size_t c_len)
-{
-    (void)a, (void)a_len, (void)b, (void)b_len, (void)c, (void)c_len;
-    return 0;
-}
-
-static uint64_t nothing_of_four(const uint8_t *a, size_t a_len, uint8_t *b, size_t b_len)
-{
-    (void)a, (void)a_len, (void)b, (void)b_len;
-    return 0;
-}
 
 static const struct party nobody = { "nobody", nothing_of_six, nothing_of_six, nothing_of_four };
 
