@@ -60,11 +60,18 @@ static void add_matching_target(void)
     add_grant(1, 0x00100000, 0x00080000, 0x00080000);
 }
 
-/* Grants of the first so many roles in turn, of memory that no batch here names. */
-static void add_others(int how_many, uint32_t roles)
+/*
+ * Grants of `roles` roles in turn from `role` on, of memory that no batch here names: above every address that a batch names, or below
+ * every one, so that no order of comparing is favoured.
+ */
+enum side { ABOVE, BELOW };
+
+static void add_others(int how_many, uint32_t role, uint32_t roles, enum side side)
 {
-    for (int i = 0; i < how_many; i++)
-        add_grant(1 + (uint32_t)i % roles, 0x10000000 + 0x00100000 * (uint32_t)i, 0x00080000, 0x00001000);
+    for (int i = 0; i < how_many; i++) {
+        uint32_t start = side == ABOVE ? 0x10000000 + 0x00100000 * (uint32_t)i : 0x00002000 * (uint32_t)i;
+        add_grant(role + (uint32_t)i % roles, start, 0x00002000, 0x00001000);
+    }
 }
 
 static void add_matching(void)
@@ -180,14 +187,54 @@ static void add_mixed(unsigned turn)
     add_run(0x33e4, 94, 1);
 }
 
-/* As many mixed packets as fit, then stages until the length is exact. */
-static void add_long(void)
+/* 3D packets of every kind: 34 words. */
+static void add_3d_packets(unsigned turn)
+{
+    unsigned n = turn % 16;
+    add_target(4);
+    add_stage(n, 2);
+    add_stage((n + 5) % 16, 2);
+    add_sample(n, 3);
+    add_sample((n + 3) % 16, 6);
+    add_sample((n + 9) % 16, 5);
+}
+
+/* Video packets of every kind, with addresses of the first scaler only: 32 words. */
+static void add_video_packets(unsigned turn)
+{
+    add_run(0x2208, 84, 3);
+    add_run(0x23e4, 87, 7);
+    add_run(0x23e8, 88, 6);
+    add_run(0x33e4, 94, 2);
+    add_run(0x23f0 + 4 * (turn % 4), 90 + turn % 4, 1);
+    add_run(0x33f4, 98, 2);
+    add_run(0x23fc, 93, 1);
+    add_run(0x220c, 85, 2);
+}
+
+/* As many packets as fit, but for the last words. */
+static void add_long(void (*add_packets)(unsigned))
 {
     for (unsigned turn = 0; LONG_WORDS - batch_words >= 64; turn++)
-        add_mixed(turn);
+        add_packets(turn);
+}
+
+/* And short packets until the length is exact: stages, */
+static void add_long_3d(void (*add_packets)(unsigned))
+{
+    add_long(add_packets);
     while (LONG_WORDS - batch_words > 6)
         add_stage(1, 1);
     add_stage(2, (unsigned)(LONG_WORDS - batch_words) - 2);
+}
+
+/* or video registers. */
+static void add_long_video(void)
+{
+    add_long(add_video_packets);
+    while (LONG_WORDS - batch_words > 4)
+        add_run(0x2210, 86, 1);
+    add_run(0x23e4, 87, (unsigned)(LONG_WORDS - batch_words) - 1);
 }
 
 /* ---- the lines of the table */
@@ -198,6 +245,7 @@ struct line {
     const char *name;
     enum kind kind;
     void (*prepare)(void);
+    size_t place; /* where it is not the batch's length */
 };
 
 static void k1_with_1(void)
@@ -206,11 +254,22 @@ static void k1_with_1(void)
     add_matching_target();
 }
 
-static void k1_with_64(void)
+/* All others are of the target's role, so that each is asked before the match. */
+static void k1_with_64(enum side side)
 {
     add_k1();
-    add_others(63, 1); /* all of the target's role, so that each is asked before the match */
+    add_others(63, 1, 1, side);
     add_matching_target();
+}
+
+static void k1_with_64_above(void)
+{
+    k1_with_64(ABOVE);
+}
+
+static void k1_with_64_below(void)
+{
+    k1_with_64(BELOW);
 }
 
 static void full_with_3(void)
@@ -220,41 +279,106 @@ static void full_with_3(void)
     add_matching();
 }
 
-static void full_with_64(void)
+static void full_with_64(enum side side)
 {
     add_full();
     full_state(first_state);
-    add_others(61, 3);
+    add_others(61, 1, 3, side);
     add_matching();
+}
+
+static void full_with_64_above(void)
+{
+    full_with_64(ABOVE);
+}
+
+static void full_with_64_below(void)
+{
+    full_with_64(BELOW);
+}
+
+/* Only the target's address, as K1 leaves it. */
+static void one_cell(void)
+{
+    put_word(first_state, 1, value_for(1));
+    put_word(first_state, CELLS + 1, 1);
+    add_matching();
+}
+
+static void from_empty(void (*prepare)(void))
+{
+    prepare();
+    memset(first_state, 0, sizeof first_state);
 }
 
 static void read_full_with_3(void)
 {
-    full_with_3();
-    memset(first_state, 0, sizeof first_state);
+    from_empty(full_with_3);
 }
 
-static void read_full_with_64(void)
+static void read_full_with_64_above(void)
 {
-    full_with_64();
-    memset(first_state, 0, sizeof first_state);
+    from_empty(full_with_64_above);
+}
+
+static void read_full_with_64_below(void)
+{
+    from_empty(full_with_64_below);
 }
 
 static void long_with_3(void)
 {
-    add_long();
+    add_long_3d(add_mixed);
     add_matching();
 }
 
+static void long_3d_with_3(void)
+{
+    add_long_3d(add_3d_packets);
+    add_matching();
+}
+
+static void long_video_with_1(void)
+{
+    add_long_video();
+    add_grant(2, 0x00200000, 0x00080000, 0x00001000);
+}
+
+/* All others are of the first scaler's role, so that each is asked before the match. */
+static void long_video_with_64(enum side side)
+{
+    add_others(63, 2, 1, side);
+    long_video_with_1();
+}
+
+static void long_video_with_64_above(void)
+{
+    long_video_with_64(ABOVE);
+}
+
+static void long_video_with_64_below(void)
+{
+    long_video_with_64(BELOW);
+}
+
 static const struct line lines[] = {
-    { "read-k1-1", READ, k1_with_1 },
-    { "read-k1-64", READ, k1_with_64 },
-    { "read-full-3", READ, read_full_with_3 },
-    { "read-full-64", READ, read_full_with_64 },
-    { "read-long", READ, long_with_3 },
-    { "write-full-3", WRITE, full_with_3 },
-    { "write-full-64", WRITE, full_with_64 },
-    { "list-full", LIST, full_with_3 }
+    { "read-k1-1", READ, k1_with_1, 0 },
+    { "read-k1-64-above", READ, k1_with_64_above, 0 },
+    { "read-k1-64-below", READ, k1_with_64_below, 0 },
+    { "read-full-3", READ, read_full_with_3, 0 },
+    { "read-full-64-above", READ, read_full_with_64_above, 0 },
+    { "read-full-64-below", READ, read_full_with_64_below, 0 },
+    { "read-long", READ, long_with_3, 0 },
+    { "read-long-3d", READ, long_3d_with_3, 0 },
+    { "read-long-video-1", READ, long_video_with_1, 0 },
+    { "read-long-video-64-above", READ, long_video_with_64_above, 0 },
+    { "read-long-video-64-below", READ, long_video_with_64_below, 0 },
+    { "write-full-3", WRITE, full_with_3, 184 },
+    { "write-full-64-above", WRITE, full_with_64_above, 184 },
+    { "write-full-64-below", WRITE, full_with_64_below, 184 },
+    { "write-one", WRITE, one_cell, 3 },
+    { "list-full", LIST, full_with_3, 2568 },
+    { "list-one", LIST, one_cell, 34 }
 };
 
 static uint64_t call(const struct calls *calls, enum kind kind)
@@ -271,9 +395,9 @@ static uint64_t call(const struct calls *calls, enum kind kind)
 }
 
 /* A count means nothing if the call was refused. */
-static uint64_t wanted(enum kind kind)
+static uint64_t wanted(const struct line *line)
 {
-    size_t place = kind == READ ? batch_words : kind == WRITE ? 184 : 2568;
+    size_t place = line->kind == READ ? batch_words : line->place;
     return (uint64_t)place * 256;
 }
 
@@ -301,7 +425,7 @@ int main(int argc, char **argv)
     uint64_t given = 0;
     for (long times = atol(argv[3]); times > 0; times--)
         given = call(calls, line->kind);
-    if (calls->read != nothing_of_six && given != wanted(line->kind))
+    if (calls->read != nothing_of_six && given != wanted(line))
         return fail("the call did not answer as it should");
     return 0;
 }

@@ -4,15 +4,18 @@
 #include "lent.h"
 #include <stdio.h>
 
+/* No call may use more; ours are held to less. */
 enum { MOST_STACK = 4096 };
+
+static const size_t most_of_ours[KINDS] = { [READ] = 2000, [WRITE] = 2000, [LIST] = 1200 };
 
 static void stacks(void)
 {
     for (size_t p = 0; p < PARTIES; p++)
         for (int kind = 0; kind < KINDS; kind++) {
-            size_t used = stack_used(&parties[p], (enum kind)kind);
+            size_t used = stack_used(&parties[p], (enum kind)kind), most = p == ARCHIVE ? most_of_ours[kind] : MOST_STACK;
             printf("stack: %s %s uses at most %zu bytes\n", parties[p].name, kind_names[kind], used);
-            expect(used <= MOST_STACK, "%s %s: more than %d bytes of stack", parties[p].name, kind_names[kind], MOST_STACK);
+            expect(used <= most, "%s %s: more than %zu bytes of stack", parties[p].name, kind_names[kind], most);
         }
 }
 

@@ -1,29 +1,33 @@
-// The words of one packet's body: each is judged and, where nothing speaks against it, stored. The callers lend a state of their own,
-// so that a refusal leaves nothing half done where it matters. There is a loop for each group, inside which type and sub-type stand still.
+// The words of one packet's body, from place `first` to before `end`: each is judged and, where nothing speaks against it, stored. The
+// callers lend a state of their own, so that a refusal leaves nothing half done where it matters. There is a loop for each group, inside
+// which type and sub-type stand still, and one for each kind of video row.
 ghost use mathlib.Core.Path.{_≡_};
-ghost use Prim.Native.Nat.{ℕ, _+_, _<_, _≤_, _^_};
+ghost use Prim.Native.Nat.{ℕ, _+_, _-_, _/_, _<_, _≤_, _^_};
 ghost use lib.ListN.{length};
+ghost use lib.Seq.{slice};
 ghost use Rattle.meaning.specs.declared.Kind.the-variants as kinds;
-ghost use Rattle.meaning.specs.Words.{paraType, paraSubType};
-ghost use Rattle.meaning.specs.Registers.{cells, registerAt, find3D, findVideo};
-ghost use Rattle.meaning.specs.Grants.{Terms};
-ghost use Rattle.meaning.specs.State.{stateWords, writeTo};
+ghost use Rattle.meaning.specs.Words.{paraType, paraSubType, wordsOf};
+ghost use Rattle.meaning.specs.Registers.{cells, cell, registerAt, find3D};
+ghost use Rattle.meaning.specs.Grants.{Terms, mostGrants};
+ghost use Rattle.meaning.specs.State.{writeTo};
 ghost use Rattle.meaning.specs.State as state_of;
 ghost use Rattle.meaning.specs.Answers.{noRegister};
 ghost use Rattle.meaning.specs.Reader.{valueReason, foundReason};
 ghost use Rattle.meaning.proofs.Table.{Of};
-ghost use Rattle.registers.specs.Names.{rowFrom};
-ghost use Rattle.verdicts.specs.Reasons.{Spanned};
+ghost use Rattle.registers.specs.Names.{offsetOf};
+ghost use Rattle.grants.specs.Kept.{Granting};
+ghost use Rattle.verdicts.specs.Scalers.{Scaler, IsScaler};
 ghost use Rattle.bodies.specs.Passes.{answerOf, bodyFrom};
+use grants::Part;
+use grants::Spans;
 use meaning::Answer;
 use meaning::Cell;
 use meaning::Found;
+use meaning::State;
 use meaning::SubAddress;
-ghost use Rattle.meaning.specs.declared.VideoOffset.{VideoOffset};
 
 // A write sets the cell's value and marks it.
-fn store(state: &mut [u32], cell: Cell, value: u32)
-    requires whole { ⌜ length (now state) ≡ stateWords ⌝ }
+fn store(state: &mut State, cell: Cell, value: u32)
     requires inside { ⌜ cell .0 < cells ⌝ }
     ensures stored { λ _. ⌜ now (state .exit) ≡ state_of.apply (now (state .entry)) (record { cell = cell; value = value }) ⌝ }
 {
@@ -33,8 +37,7 @@ fn store(state: &mut [u32], cell: Cell, value: u32)
 }
 
 // A register that the table has gets the value.
-fn store_found(state: &mut [u32], found: Found, value: u32)
-    requires whole { ⌜ length (now state) ≡ stateWords ⌝ }
+fn store_found(state: &mut State, found: Found, value: u32)
     requires inside { ⌜ Of (λ c. c .0 < cells) found ⌝ }
     ensures stored { λ _. ⌜ now (state .exit) ≡ state_of.applyAll (now (state .entry)) (writeTo found value) ⌝ }
 {
@@ -45,14 +48,15 @@ fn store_found(state: &mut [u32], found: Found, value: u32)
 }
 
 // 6 to 9 under 01.00.
-fn target_reason(address: SubAddress, value: u32, targets: &[u32]) -> u32
+fn target_reason(address: SubAddress, value: u32, starts: &Spans, lasts: &Spans, part: Part) -> u32
     requires narrow { ⌜ value < 2 ^ 24 ⌝ }
-    ensures reason { λ r. ⌜ ((g : Terms) → Spanned g 1 (now (targets .entry)) → r ≡ foundReason g noRegister (find3D 0x01 0x00 address) value) ⌝ }
+    requires kept { ⌜ part .to ≤ mostGrants ⌝ }
+    ensures reason { λ r. ⌜ ((g : Terms) → Granting g 1 (now (starts .entry)) (now (lasts .entry)) part → r ≡ foundReason g noRegister (find3D 0x01 0x00 address) value) ⌝ }
 {
     let a = address.0;
     match a {
         0x3f => verdicts::alpha_constants_reason(value),
-        0x50 => verdicts::target_address_reason(value, targets),
+        0x50 => verdicts::target_address_reason(value, starts, lasts, part),
         0x51 => verdicts::location_reason(value),
         0x52 => verdicts::format_reason(value),
         _ => 6,
@@ -83,156 +87,204 @@ fn sample_reason(address: SubAddress, value: u32) -> u32
     }
 }
 
-// 7 to 9 of a video cell.
-fn video_reason(cell: Cell, value: u32, firsts: &[u32], seconds: &[u32]) -> u32
-    requires low { ⌜ 84 ≤ cell .0 ⌝ }
-    requires high { ⌜ cell .0 < cells ⌝ }
-    ensures reason { λ r. ⌜ ((g : Terms) → Spanned g 2 (now (firsts .entry)) → Spanned g 3 (now (seconds .entry)) → r ≡ valueReason g (registerAt cell) value) ⌝ }
+// 7 and 8 of 2208, 220C and 2210.
+fn overlay_reason(index: usize, value: u32) -> u32
+    requires three { ⌜ index < 3 ⌝ }
+    ensures reason { λ r. ⌜ ((g : Terms) → r ≡ valueReason g (registerAt (cell (84 + index))) value) ⌝ }
 {
-    let c = cell.0;
-    match c {
-        0..=85 => verdicts::overlay_reason(value),
-        86 => verdicts::alpha_select_reason(value),
-        87..=93 => verdicts::scaler_reason(c - 87, value, firsts),
-        _ => verdicts::scaler_reason(c - 94, value, seconds),
+    match index {
+        0..=1 => verdicts::overlay_reason(value),
+        _ => verdicts::alpha_select_reason(value),
     }
 }
 
-// Parameters under 01.00, the first at place `start`.
+// 7 to 9 of a scaler's registers.
+fn scaler_reason(index: usize, value: u32, starts: &Spans, lasts: &Spans, part: Part) -> u32
+    requires seven { ⌜ index < 7 ⌝ }
+    requires kept { ⌜ part .to ≤ mostGrants ⌝ }
+    ensures reason { λ r. ⌜ ((g : Terms) (c role : ℕ) → Scaler c role → Granting g role (now (starts .entry)) (now (lasts .entry)) part → r ≡ valueReason g (registerAt (cell (c + index))) value) ⌝ }
+{
+    match index {
+        0 => verdicts::deinterlace_reason(value),
+        1 => verdicts::sub_picture_reason(value),
+        2 => verdicts::first_address_reason(value, starts, lasts, part),
+        3 => verdicts::address_reason(value, starts, lasts, part),
+        4 => verdicts::destination_stride_reason(value),
+        5 => verdicts::source_stride_reason(value),
+        _ => verdicts::address_reason(value, starts, lasts, part),
+    }
+}
+
+// Parameters under 01.00.
 pub fn take_target(
-    words: &[u32],
-    start: usize,
+    batch: &[u8],
+    first: usize,
+    end: usize,
     setting: u32,
-    targets: &[u32],
-    state: &mut [u32],
+    starts: &Spans,
+    lasts: &Spans,
+    part: Part,
+    state: &mut State,
 ) -> Answer
-    requires fits { ⌜ start + length (now words) < 2 ^ 64 ⌝ }
+    requires order { ⌜ first ≤ end ⌝ }
+    requires inside { ⌜ end ≤ length (now batch) / 4 ⌝ }
     requires ty { ⌜ paraType setting ≡ 0x01 ⌝ }
     requires sub { ⌜ paraSubType setting ≡ 0x00 ⌝ }
-    requires whole { ⌜ length (now state) ≡ stateWords ⌝ }
-    ensures answer { λ r. ⌜ ((g : Terms) → Spanned g 1 (now (targets .entry)) → r ≡ answerOf (bodyFrom g start (kinds.Parameter setting) (now (words .entry)) (now (state .entry)))) ⌝ }
-    ensures state { λ _. ⌜ ((g : Terms) → Spanned g 1 (now (targets .entry)) → now (state .exit) ≡ bodyFrom g start (kinds.Parameter setting) (now (words .entry)) (now (state .entry)) .state) ⌝ }
+    requires kept { ⌜ part .to ≤ mostGrants ⌝ }
+    ensures answer { λ r. ⌜ ((g : Terms) → Granting g 1 (now (starts .entry)) (now (lasts .entry)) part → r ≡ answerOf (bodyFrom g first (kinds.Parameter setting) (slice first end (wordsOf (now (batch .entry)))) (now (state .entry)))) ⌝ }
+    ensures state { λ _. ⌜ ((g : Terms) → Granting g 1 (now (starts .entry)) (now (lasts .entry)) part → now (state .exit) ≡ bodyFrom g first (kinds.Parameter setting) (slice first end (wordsOf (now (batch .entry)))) (now (state .entry)) .state) ⌝ }
 {
-    let mut i = 0;
-    while i < words.len() {
-        let w = words[i];
+    let mut at = first;
+    while at < end {
+        let w = words::word(batch, at);
         let address = fields::sub_address(w);
         let value = fields::data(w);
-        let reason = target_reason(address, value, targets);
+        let reason = target_reason(address, value, starts, lasts, part);
         if reason != 0 {
-            return Answer {
-                reason,
-                place: start + i,
-            };
+            return Answer { reason, place: at };
         }
         let found = registers::register_3d(0x01, 0x00, address);
         store_found(state, found, value);
-        i += 1;
+        at += 1;
     }
     Answer {
         reason: 0,
-        place: start + i,
+        place: at,
     }
 }
 
 // Parameters under 02.0n.
-pub fn take_stage(words: &[u32], start: usize, setting: u32, state: &mut [u32]) -> Answer
-    requires fits { ⌜ start + length (now words) < 2 ^ 64 ⌝ }
+pub fn take_stage(batch: &[u8], first: usize, end: usize, setting: u32, state: &mut State) -> Answer
+    requires order { ⌜ first ≤ end ⌝ }
+    requires inside { ⌜ end ≤ length (now batch) / 4 ⌝ }
     requires ty { ⌜ paraType setting ≡ 0x02 ⌝ }
     requires sub { ⌜ paraSubType setting < 16 ⌝ }
-    requires whole { ⌜ length (now state) ≡ stateWords ⌝ }
-    ensures answer { λ r. ⌜ ((g : Terms) → r ≡ answerOf (bodyFrom g start (kinds.Parameter setting) (now (words .entry)) (now (state .entry)))) ⌝ }
-    ensures state { λ _. ⌜ ((g : Terms) → now (state .exit) ≡ bodyFrom g start (kinds.Parameter setting) (now (words .entry)) (now (state .entry)) .state) ⌝ }
+    ensures answer { λ r. ⌜ ((g : Terms) → r ≡ answerOf (bodyFrom g first (kinds.Parameter setting) (slice first end (wordsOf (now (batch .entry)))) (now (state .entry)))) ⌝ }
+    ensures state { λ _. ⌜ ((g : Terms) → now (state .exit) ≡ bodyFrom g first (kinds.Parameter setting) (slice first end (wordsOf (now (batch .entry)))) (now (state .entry)) .state) ⌝ }
 {
     let sub = fields::sub_type(setting);
-    let mut i = 0;
-    while i < words.len() {
-        let w = words[i];
+    let mut at = first;
+    while at < end {
+        let w = words::word(batch, at);
         let address = fields::sub_address(w);
         let value = fields::data(w);
         let reason = stage_reason(address, value);
         if reason != 0 {
-            return Answer {
-                reason,
-                place: start + i,
-            };
+            return Answer { reason, place: at };
         }
         let found = registers::register_3d(0x02, sub, address);
         store_found(state, found, value);
-        i += 1;
+        at += 1;
     }
     Answer {
         reason: 0,
-        place: start + i,
+        place: at,
     }
 }
 
 // Parameters under 02.2n.
-pub fn take_sample(words: &[u32], start: usize, setting: u32, state: &mut [u32]) -> Answer
-    requires fits { ⌜ start + length (now words) < 2 ^ 64 ⌝ }
+pub fn take_sample(
+    batch: &[u8],
+    first: usize,
+    end: usize,
+    setting: u32,
+    state: &mut State,
+) -> Answer
+    requires order { ⌜ first ≤ end ⌝ }
+    requires inside { ⌜ end ≤ length (now batch) / 4 ⌝ }
     requires ty { ⌜ paraType setting ≡ 0x02 ⌝ }
     requires low { ⌜ 0x20 ≤ paraSubType setting ⌝ }
     requires high { ⌜ paraSubType setting < 0x30 ⌝ }
-    requires whole { ⌜ length (now state) ≡ stateWords ⌝ }
-    ensures answer { λ r. ⌜ ((g : Terms) → r ≡ answerOf (bodyFrom g start (kinds.Parameter setting) (now (words .entry)) (now (state .entry)))) ⌝ }
-    ensures state { λ _. ⌜ ((g : Terms) → now (state .exit) ≡ bodyFrom g start (kinds.Parameter setting) (now (words .entry)) (now (state .entry)) .state) ⌝ }
+    ensures answer { λ r. ⌜ ((g : Terms) → r ≡ answerOf (bodyFrom g first (kinds.Parameter setting) (slice first end (wordsOf (now (batch .entry)))) (now (state .entry)))) ⌝ }
+    ensures state { λ _. ⌜ ((g : Terms) → now (state .exit) ≡ bodyFrom g first (kinds.Parameter setting) (slice first end (wordsOf (now (batch .entry)))) (now (state .entry)) .state) ⌝ }
 {
     let sub = fields::sub_type(setting);
-    let mut i = 0;
-    while i < words.len() {
-        let w = words[i];
+    let mut at = first;
+    while at < end {
+        let w = words::word(batch, at);
         let address = fields::sub_address(w);
         let value = fields::data(w);
         let reason = sample_reason(address, value);
         if reason != 0 {
-            return Answer {
-                reason,
-                place: start + i,
-            };
+            return Answer { reason, place: at };
         }
         let found = registers::register_3d(0x02, sub, address);
         store_found(state, found, value);
-        i += 1;
+        at += 1;
     }
     Answer {
         reason: 0,
-        place: start + i,
+        place: at,
     }
 }
 
-// A run of words for video registers, from a cell on: cells follow one another as their offsets do.
-pub fn take_run(
-    words: &[u32],
-    start: usize,
-    cell: Cell,
-    firsts: &[u32],
-    seconds: &[u32],
-    state: &mut [u32],
+// A run of words for 2208 to 2210, from register number `index` of them on.
+pub fn take_overlay(
+    batch: &[u8],
+    first: usize,
+    end: usize,
+    index: usize,
+    state: &mut State,
 ) -> Answer
-    requires fits { ⌜ start + length (now words) < 2 ^ 64 ⌝ }
-    requires low { ⌜ 84 ≤ cell .0 ⌝ }
-    requires high { ⌜ cell .0 < cells ⌝ }
-    requires row { ⌜ length (now words) ≤ rowFrom cell ⌝ }
-    requires whole { ⌜ length (now state) ≡ stateWords ⌝ }
-    ensures answer { λ r. ⌜ ((g : Terms) (o : VideoOffset) → Spanned g 2 (now (firsts .entry)) → Spanned g 3 (now (seconds .entry)) → findVideo o ≡ Found.At cell → r ≡ answerOf (bodyFrom g start (kinds.Video o) (now (words .entry)) (now (state .entry)))) ⌝ }
-    ensures state { λ _. ⌜ ((g : Terms) (o : VideoOffset) → Spanned g 2 (now (firsts .entry)) → Spanned g 3 (now (seconds .entry)) → findVideo o ≡ Found.At cell → now (state .exit) ≡ bodyFrom g start (kinds.Video o) (now (words .entry)) (now (state .entry)) .state) ⌝ }
+    requires order { ⌜ first ≤ end ⌝ }
+    requires inside { ⌜ end ≤ length (now batch) / 4 ⌝ }
+    requires row { ⌜ index + (end - first) ≤ 3 ⌝ }
+    ensures answer { λ r. ⌜ ((g : Terms) → r ≡ answerOf (bodyFrom g first (kinds.Video (offsetOf (cell (84 + index)))) (slice first end (wordsOf (now (batch .entry)))) (now (state .entry)))) ⌝ }
+    ensures state { λ _. ⌜ ((g : Terms) → now (state .exit) ≡ bodyFrom g first (kinds.Video (offsetOf (cell (84 + index)))) (slice first end (wordsOf (now (batch .entry)))) (now (state .entry)) .state) ⌝ }
 {
-    let first = cell.0;
-    let mut i = 0;
-    while i < words.len() {
-        let w = words[i];
-        let reason = video_reason(Cell(first + i), w, firsts, seconds);
+    let mut k = index;
+    let mut at = first;
+    while at < end {
+        let w = words::word(batch, at);
+        let reason = overlay_reason(k, w);
         if reason != 0 {
-            return Answer {
-                reason,
-                place: start + i,
-            };
+            return Answer { reason, place: at };
         }
-        store(state, Cell(first + i), w);
-        i += 1;
+        store(state, Cell(84 + k), w);
+        at += 1;
+        k += 1;
     }
     Answer {
         reason: 0,
-        place: start + i,
+        place: at,
+    }
+}
+
+// The same for a scaler: `base` is the cell of its first register, and `part` are the grants of its addresses.
+pub fn take_scaler(
+    batch: &[u8],
+    first: usize,
+    end: usize,
+    base: Cell,
+    index: usize,
+    starts: &Spans,
+    lasts: &Spans,
+    part: Part,
+    state: &mut State,
+) -> Answer
+    requires order { ⌜ first ≤ end ⌝ }
+    requires inside { ⌜ end ≤ length (now batch) / 4 ⌝ }
+    requires row { ⌜ index + (end - first) ≤ 7 ⌝ }
+    requires scaler { ⌜ IsScaler (base .0) ⌝ }
+    requires kept { ⌜ part .to ≤ mostGrants ⌝ }
+    ensures answer { λ r. ⌜ ((g : Terms) (role : ℕ) → Scaler (base .0) role → Granting g role (now (starts .entry)) (now (lasts .entry)) part → r ≡ answerOf (bodyFrom g first (kinds.Video (offsetOf (cell (base .0 + index)))) (slice first end (wordsOf (now (batch .entry)))) (now (state .entry)))) ⌝ }
+    ensures state { λ _. ⌜ ((g : Terms) (role : ℕ) → Scaler (base .0) role → Granting g role (now (starts .entry)) (now (lasts .entry)) part → now (state .exit) ≡ bodyFrom g first (kinds.Video (offsetOf (cell (base .0 + index)))) (slice first end (wordsOf (now (batch .entry)))) (now (state .entry)) .state) ⌝ }
+{
+    let own = base.0;
+    let mut k = index;
+    let mut at = first;
+    while at < end {
+        let w = words::word(batch, at);
+        let reason = scaler_reason(k, w, starts, lasts, part);
+        if reason != 0 {
+            return Answer { reason, place: at };
+        }
+        store(state, Cell(own + k), w);
+        at += 1;
+        k += 1;
+    }
+    Answer {
+        reason: 0,
+        place: at,
     }
 }

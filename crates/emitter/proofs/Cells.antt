@@ -1,23 +1,22 @@
 -- What is emitted for one cell, by its mark.
 -- Assumes nothing.
-use mathlib.Core.Path.{_≡_, refl, ap}
+use mathlib.Core.Path.{_≡_, refl, sym, ap}
 use mathlib.Core.Bool.{Bool}
 use mathlib.Core.List.{List, [], _∷_}
 use Prim.Native.Nat.{ℕ, zero, suc, _+_, _*_, _≤_, _<_, _^_}
 use native.Mathlib.Omega.{arith}
-use native.Mathlib.Numerals.{add-one}
 use lib.Dec.{T, ltb}
-use lib.ListN.{length, set}
-use lib.Seq.{sets}
+use lib.ListN.{length}
 use mir.Facts.{ltb-yes}
 use Rattle.laws.specs.Lists.{join, every, from}
 use Rattle.laws.proofs.Lists.{every-from}
 use Rattle.meaning.specs.declared.Cell.{Cell}
 use Rattle.meaning.specs.declared.SubAddress.{SubAddress}
-use Rattle.meaning.specs.declared.VideoOffset.{VideoOffset}
 use Rattle.meaning.specs.Registers.{cell}
 use Rattle.meaning.specs.State.{valueAt, markAt}
 use Rattle.meaning.specs.Writer.{headerWord, ifMarked}
+use Rattle.words.specs.Stores.{putWords}
+use Rattle.words.proofs.Stores.{put-none, put-append}
 use Rattle.registers.specs.Names.{offsetOf}
 use Rattle.emitter.specs.Emitted.{parameterOf, videoWords}
 
@@ -26,8 +25,12 @@ marked zero x n = absurd (n refl)
 marked (suc m) x n = refl
 
 -- nothing is emitted: the place and the output stay
-pub emits-none : {ws : List ℕ} (out : List ℕ) (at : ℕ) → ws ≡ [] → (at ≡ at + length ws) × (out ≡ sets out at ws)
-emits-none out at e = rw e (omega arith, refl)
+pub emits-none : {ws : List ℕ} (out : List ℕ) (at : ℕ) → ws ≡ [] → (at ≡ at + length ws) × (out ≡ putWords out at ws)
+emits-none out at e = rw e (omega arith, sym (put-none out at))
+
+-- two words, one after the other
+pub two-stored : {mid end : List ℕ} (out : List ℕ) (at x y : ℕ) → mid ≡ putWords out at (x ∷ []) → end ≡ putWords mid (at + 1) (y ∷ []) → end ≡ putWords out at (x ∷ y ∷ [])
+two-stored out at x y first second = rw (second, first) (put-append out at (x ∷ []) (y ∷ []))
 
 module _ (st : List ℕ) (c : Cell) where
   module _ (a : SubAddress) where
@@ -46,11 +49,6 @@ module _ (st : List ℕ) (c : Cell) where
   pub video-one : (markAt st c ≡ 0 → ⊥) → videoWords st (c .0) ≡ headerWord 1 (offsetOf c .0) ∷ valueAt st c ∷ []
   unfolding videoWords
   video-one n = ap join (marked (markAt st c) _ n)
-
-  -- the two stores of a video packet
-  pub video-stored : (out : List ℕ) (at : ℕ) (o : VideoOffset) → o ≡ offsetOf c → (markAt st c ≡ 0 → ⊥)
-      → (at + 2 ≡ at + length (videoWords st (c .0))) × (set (set out at (65536 + o .0)) (at + 1) (valueAt st c) ≡ sets out at (videoWords st (c .0)))
-  video-stored out at o e n = rw (video-one n, e, add-one at) (omega arith, refl)
 
 -- an offset fits its field of a header
 short : ℕ → Bool

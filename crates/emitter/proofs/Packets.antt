@@ -2,42 +2,26 @@
 -- Assumes nothing.
 use mathlib.Core.Path.{_≡_, refl, ap, _∙_}
 use mathlib.Core.List.{List, [], _∷_, _++_}
-use Prim.Native.Nat.{ℕ, zero, suc, _+_, _*_, _-_, _≤_, _<_}
+use Prim.Native.Nat.{ℕ, suc, _+_, _*_, _-_, _/_, _≤_, _<_}
 use native.Mathlib.Omega.{arith}
 use native.Mathlib.Nat.{zero-add}
 use native.Mathlib.Decide.{ℕ-discrete}
 use borrow.Author.Tests.{eq-eqb, ne-eqb}
-use lib.ListN.{length, set, length-append}
-use lib.Seq.{sets, length-sets}
+use lib.ListN.{length, length-append}
 use Rattle.meaning.specs.Registers.{cell, targetGroup, stage, sample}
 use Rattle.meaning.specs.Batch.{offset3D}
 use Rattle.meaning.specs.Writer.{headerWord, settingWord}
+use Rattle.words.specs.Stores.{putWords}
+use Rattle.words.proofs.Stores.{put-none, length-put, put-append, put-before}
 use Rattle.emitter.specs.Emitted.{parameterOf, packetWords, groupWords, stageWords, sampleWords, Room}
 use Rattle.emitter.specs.Closed.{closedEnd, closedWords}
 use Rattle.emitter.proofs.Cells.{emits-none}
 use Rattle.emitter.proofs.Counted.{packet-none, packet-some, parameter-few}
 use Rattle.emitter.proofs.Runs.{Runs, begun, room-next, went, ended}
 
--- ---- stores at different places
-
--- two stores, either way round
-set-swap {ℓ} : {A : Type ℓ} (l : List A) (i j : ℕ) (x y : A) → i < j → set (set l j y) i x ≡ set (set l i x) j y
-set-swap [] i j x y h = refl
-set-swap (a ∷ l) zero zero x y h = absurd (omega arith)
-set-swap (a ∷ l) zero (suc j) x y h = refl
-set-swap (a ∷ l) (suc i) zero x y h = absurd (omega arith)
-set-swap (a ∷ l) (suc i) (suc j) x y h = ap (λ r. a ∷ r) (set-swap l i j x y (omega arith))
-
--- a store before a run of stores, either way round
-set-before {ℓ} : {A : Type ℓ} (l : List A) (i j : ℕ) (x : A) (vs : List A) → i < j → set (sets l j vs) i x ≡ sets (set l i x) j vs
-set-before l i j x [] h = refl
-set-before l i j x (v ∷ vs) h = set-before (set l j v) i (suc j) x vs (omega arith) ∙ ap (λ r. sets r (suc j) vs) (set-swap l i j x v h)
-
-headed : (l : List ℕ) (at h s : ℕ) (ps : List ℕ) → set (set (sets l (at + 2) ps) at h) (at + 1) s ≡ sets l at (h ∷ s ∷ ps)
-headed l at h s ps =
-    let one : at + 1 ≡ suc at = omega arith in
-    let two : at + 2 ≡ suc (suc at) = omega arith in
-    rw (one, two, set-before l at (suc (suc at)) h ps (omega arith), set-before (set l at h) (suc at) (suc (suc at)) s ps (omega arith))
+-- the head before the parameters
+headed : (out : List ℕ) (at h s : ℕ) (ps : List ℕ) → putWords (putWords out (at + 2) ps) at (h ∷ s ∷ []) ≡ putWords out at (h ∷ s ∷ ps)
+headed out at h s ps = put-before out at (at + 2) (h ∷ s ∷ []) ps (omega arith) ∙ put-append out at (h ∷ s ∷ []) ps
 
 -- ---- the packet
 
@@ -48,23 +32,23 @@ some-length s ps some = omega (arith, ap length (packet-some s ps some))
 -- the parameters of a packet at a place are being stored, and there is room for the packet
 pub record Open (t u : ℕ) (ps old : List ℕ) (at : ℕ) (left out : List ℕ) (end : ℕ) : Type 0 where
   pub runs : Runs ps old (at + 2) left out end
-  pub room : at + length (packetWords (settingWord t u) ps) ≤ length old
+  pub room : at + length (packetWords (settingWord t u) ps) ≤ length old / 4
 
-pub opened : (t u : ℕ) (ps old : List ℕ) (at : ℕ) → at + length (packetWords (settingWord t u) ps) ≤ length old → Open t u ps old at ps old (at + 2)
+pub opened : (t u : ℕ) (ps old : List ℕ) (at : ℕ) → at + length (packetWords (settingWord t u) ps) ≤ length old / 4 → Open t u ps old at ps old (at + 2)
 opened t u ps old at room = record { runs = begun ps old (at + 2); room = room }
 
 module _ {t u : ℕ} {ps old : List ℕ} {at : ℕ} {out : List ℕ} {end : ℕ} (piece left : List ℕ) (packet : Open t u ps old at (piece ++ left) out end) where
   pub room-parameter : Room out end piece
   room-parameter = room-next piece left (packet .runs) (λ some. omega (arith, some-length (settingWord t u) ps some, packet .room))
 
-  pub stored : {end′ : ℕ} {out′ : List ℕ} → end′ ≡ end + length piece → out′ ≡ sets out end piece → Open t u ps old at left out′ end′
+  pub stored : {end′ : ℕ} {out′ : List ℕ} → end′ ≡ end + length piece → out′ ≡ putWords out end piece → Open t u ps old at left out′ end′
   stored moved written = record { runs = went piece left (packet .runs) moved written; room = packet .room }
 
 module _ {t u : ℕ} {ps old : List ℕ} {at : ℕ} {out : List ℕ} {end : ℕ} (packet : Open t u ps old at [] out end) where
   ends : end ≡ at + 2 + length ps
   ends = ended (packet .runs) .0
 
-  there : out ≡ sets old (at + 2) ps
+  there : out ≡ putWords old (at + 2) ps
   there = ended (packet .runs) .1
 
   -- what the head asks for
@@ -74,18 +58,18 @@ module _ {t u : ℕ} {ps old : List ℕ} {at : ℕ} {out : List ℕ} {end : ℕ}
   pub head-near : length ps ≤ 4 → end ≤ at + 6
   head-near few = omega (arith, ends)
 
-  pub head-room : (end ≡ at + 2 → ⊥) → end ≤ length out
+  pub head-room : (end ≡ at + 2 → ⊥) → end ≤ length out / 4
   head-room some =
-      omega (arith, ends, ap length there, length-sets old (at + 2) ps, packet .room, some-length (settingWord t u) ps (omega (arith, ends)))
+      omega (arith, ends, ap length there, length-put old (at + 2) ps, packet .room, some-length (settingWord t u) ps (omega (arith, ends)))
 
   abbrev Closed : ℕ → List ℕ → Type 0
-  Closed r out′ = (r ≡ at + length (packetWords (settingWord t u) ps)) × (out′ ≡ sets old at (packetWords (settingWord t u) ps))
+  Closed r out′ = (r ≡ at + length (packetWords (settingWord t u) ps)) × (out′ ≡ putWords old at (packetWords (settingWord t u) ps))
 
   no-packet : end ≡ at + 2 → Closed (closedEnd at end) (closedWords out at end t u)
   unfolding closedEnd closedWords
   no-packet still =
       let none : ps ≡ [] = empty ps (omega (arith, ends)) in
-      let same : out ≡ old = there ∙ ap (sets old (at + 2)) none in
+      let same : out ≡ old = there ∙ ap (putWords old (at + 2)) none ∙ put-none old (at + 2) in
       let nothing : packetWords (settingWord t u) ps ≡ [] = packet-none (settingWord t u) ps (ap length none) in
       rw (eq-eqb end (at + 2) still, same) (emits-none old at nothing)
     where

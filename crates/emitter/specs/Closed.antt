@@ -1,12 +1,12 @@
 -- What a packet's head does to the output, and how many words packets take: the leaves of the code.
 -- Assumes nothing.
 use mathlib.Core.Bool.{cond}
-use mathlib.Core.List.{List}
+use mathlib.Core.List.{List, [], _∷_}
 use Prim.Native.Nat.{ℕ, zero, suc, _+_, _*_, _-_}
 use lib.Dec.{eqb}
-use lib.ListN.{set}
 use Rattle.meaning.specs.Batch.{offset3D}
 use Rattle.meaning.specs.Writer.{headerWord, settingWord}
+use Rattle.words.specs.Stores.{putWords}
 use Rattle.states.specs.Marks.{markedIn}
 
 -- where a packet that begins at a place ends, if its parameters end at `end`; with none there is no packet
@@ -15,7 +15,7 @@ closedEnd at end = cond (eqb end (at + 2)) at end
 
 -- the output once header and setting stand before the parameters
 unfoldable pub closedWords : List ℕ → ℕ → ℕ → ℕ → ℕ → List ℕ
-closedWords out at end t u = cond (eqb end (at + 2)) out (set (set out at (headerWord (end - at - 1) offset3D)) (at + 1) (settingWord t u))
+closedWords out at end t u = cond (eqb end (at + 2)) out (putWords out at (headerWord (end - at - 1) offset3D ∷ settingWord t u ∷ []))
 
 -- the words of a packet of so many parameters
 unfoldable pub packetNeed : ℕ → ℕ

@@ -1,7 +1,7 @@
 -- The words of a state as they are emitted: of a cell, of a group of the table, of all groups, of all video cells. proofs/Emitted ties them to `written`.
 -- Assumes nothing.
 use mathlib.Core.List.{List, [], _∷_, _++_}
-use Prim.Native.Nat.{ℕ, zero, suc, _+_, _*_, _≤_, _<_, _^_}
+use Prim.Native.Nat.{ℕ, zero, suc, _+_, _*_, _/_, _≤_, _<_, _^_}
 use lib.ListN.{length}
 use Rattle.laws.specs.Lists.{join}
 use Rattle.meaning.specs.declared.Cell.{Cell}
@@ -58,9 +58,9 @@ words3D st = groupWords st targetGroup ++ (inRow (stageWords st) 0 many ++ inRow
 unfoldable pub wordsVideo : List ℕ → List ℕ
 wordsVideo st = inRow (videoWords st) 84 17
 
--- there is room for words from a place on; no words need none
+-- there is room in the bytes for words from a place on; no words need none
 abbrev pub Room : List ℕ → ℕ → List ℕ → Type 0
-Room out at ws = 0 < length ws → at + length ws ≤ length out
+Room out at ws = 0 < length ws → at + length ws ≤ length out / 4
 
 -- a marked 3D value is 24 bits wide, so that a sub-address fits above it
 abbrev pub Narrow : List ℕ → Type 0

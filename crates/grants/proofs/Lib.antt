@@ -1,4 +1,4 @@
 pub mod Grants
-pub mod Lent
-pub mod Spans
-pub mod Few
+pub mod Room
+pub mod Keeping
+pub mod Asking

@@ -1,19 +1,25 @@
-// The grant list: its rules, and its grants kept by role as spans, so that a test is a subtraction and two comparisons.
+// The grant list: its rules, and its grants kept by role, each as the first and the last address that it covers, so that a test is two
+// comparisons.
 ghost use mathlib.Core.Path.{_≡_};
-ghost use mathlib.Core.Bool.{_&&_};
-ghost use Prim.Native.Nat.{_+_, _-_, _≤_};
-ghost use lib.Dec.{leb};
-ghost use lib.ListN.{length};
-ghost use lib.Seq.{sets};
-ghost use Rattle.laws.specs.Lists.{over};
-ghost use Rattle.meaning.specs.Grants.{grantsOf, grantFine, grantsFine};
-ghost use Rattle.grants.specs.Spans.{spansOf, coveredBy, keptWords, keptEnds};
+ghost use mathlib.Core.Bool.{_&&_, true};
+ghost use Prim.Native.Nat.{ℕ, _+_, _≤_, _<_};
+ghost use lib.Dec.{T, leb};
+ghost use lib.ListN.{length, getD};
+ghost use Rattle.meaning.specs.Words.{wordsOf};
+ghost use Rattle.meaning.specs.Grants.{grantsOf, grantFine, mostGrants, grantsFine};
+ghost use Rattle.grants.specs.Kept as kept;
 
-// Where the spans of each role end: those of the target stand first, then the first scaler's, then the second's.
-pub struct Kept {
-    pub targets: usize,
-    pub firsts: usize,
-    pub seconds: usize,
+// The first address of each kept grant, or the last of each.
+pub type Spans = [u32; 64];
+
+// Where the kept grants of each role stand: from `bounds[role]` on, to before `bounds[4 + role]`. What else is kept of a grant, or of the
+// list, has its place here.
+pub type Bounds = [usize; 8];
+
+// The kept grants of one role.
+pub struct Part {
+    pub from: usize,
+    pub to: usize,
 }
 
 // The sum is taken in 64 bits: an end of 2^32 is allowed, and does not fit a word.
@@ -32,85 +38,122 @@ fn grant_fine(role: u32, start: u32, length: u32, reach: u32) -> bool
     1 <= reach
 }
 
-// Whole grants, at most 64, each with a role from 1 to 3, an end of at most 2^32 and a reach of at least 1.
-pub fn grants_fine(grants: &[u32]) -> bool
-    ensures fine { λ r. ⌜ r ≡ grantsFine (now (grants .entry)) ⌝ }
+// Whole grants, at most 64, each with a role from 1 to 3, an end of at most 2^32 and a reach of at least 1. How many have each role is
+// counted on the way.
+fn count_roles(grants: &[u8], counts: &mut [usize; 4]) -> bool
+    requires none { ⌜ now counts ≡ kept.noCounts ⌝ }
+    ensures fine { λ r. ⌜ r ≡ grantsFine (wordsOf (now (grants .entry))) ⌝ }
+    ensures counts { λ r. ⌜ (r ≡ true → (role : ℕ) → role < 4 → getD (now (counts .exit)) role 0 ≡ kept.withRole role (grantsOf (wordsOf (now (grants .entry))))) ⌝ }
 {
-    if grants.len() % 4 != 0 {
+    let words = grants.len() / 4;
+    if words % 4 != 0 {
         return false;
     }
-    if 64 < grants.len() / 4 {
+    if 256 < words {
         return false;
     }
     let mut i = 0;
-    while i + 4 <= grants.len() {
-        if !grant_fine(grants[i], grants[i + 1], grants[i + 2], grants[i + 3]) {
+    while i < words {
+        let role = words::word(grants, i);
+        if !grant_fine(
+            role,
+            words::word(grants, i + 1),
+            words::word(grants, i + 2),
+            words::word(grants, i + 3),
+        ) {
             return false;
         }
+        let r = role as usize;
+        counts[r] = counts[r] + 1;
         i += 4;
     }
     true
 }
 
-// Appends the spans of one role, from the place `at` on. A grant whose reach is more than its length covers no address, so it leaves no span.
-fn keep_role(grants: &[u32], role: u32, spans: &mut [u32], at: usize) -> usize
-    requires room { ⌜ at + length (spansOf role (grantsOf (now grants))) ≤ length (now spans) ⌝ }
-    ensures end { λ r. ⌜ r ≡ at + length (spansOf role (grantsOf (now (grants .entry)))) ⌝ }
-    ensures spans { λ _. ⌜ now (spans .exit) ≡ sets (now (spans .entry)) at (spansOf role (grantsOf (now (grants .entry)))) ⌝ }
+// Keeps each grant in its role's part, in the order of the list. One whose reach is more than its length covers no address, and is left out.
+fn place(grants: &[u8], starts: &mut Spans, lasts: &mut Spans, bounds: &mut Bounds)
+    requires fine { ⌜ T (grantsFine (wordsOf (now grants))) ⌝ }
+    requires begun { ⌜ now bounds ≡ kept.beginnings (grantsOf (wordsOf (now grants))) ⌝ }
+    ensures starts { λ _. ⌜ now (starts .exit) ≡ kept.keptOf (grantsOf (wordsOf (now (grants .entry)))) (now (starts .entry)) (now (lasts .entry)) .starts ⌝ }
+    ensures lasts { λ _. ⌜ now (lasts .exit) ≡ kept.keptOf (grantsOf (wordsOf (now (grants .entry)))) (now (starts .entry)) (now (lasts .entry)) .lasts ⌝ }
+    ensures bounds { λ _. ⌜ now (bounds .exit) ≡ kept.keptOf (grantsOf (wordsOf (now (grants .entry)))) (now (starts .entry)) (now (lasts .entry)) .bounds ⌝ }
 {
-    let mut end = at;
+    let words = grants.len() / 4;
     let mut i = 0;
-    while i + 4 <= grants.len() {
-        if grants[i] == role {
-            let length = grants[i + 2];
-            let reach = grants[i + 3];
-            if reach <= length {
-                spans[end] = grants[i + 1];
-                spans[end + 1] = length - reach;
-                end += 2;
-            }
+    while i < words {
+        let length = words::word(grants, i + 2);
+        let reach = words::word(grants, i + 3);
+        if reach <= length {
+            let end = 4 + words::word(grants, i) as usize;
+            let at = bounds[end];
+            let start = words::word(grants, i + 1);
+            starts[at] = start;
+            lasts[at] = start + (length - reach);
+            bounds[end] = at + 1;
         }
         i += 4;
     }
-    end
 }
 
-// Keeps the grants by role: of each a start and a width.
-pub fn keep(grants: &[u32], spans: &mut [u32; 128]) -> Kept
-    requires few { ⌜ length (now grants) ≤ 256 ⌝ }
-    ensures ends { λ r. ⌜ r ≡ keptEnds (grantsOf (now (grants .entry))) ⌝ }
-    ensures spans { λ _. ⌜ now (spans .exit) ≡ over (keptWords (grantsOf (now (grants .entry)))) (now (spans .entry)) ⌝ }
+// Keeps the grants of a list; false, and nothing is kept, where the list breaks its rules.
+pub fn keep(grants: &[u8], starts: &mut Spans, lasts: &mut Spans, bounds: &mut Bounds) -> bool
+    requires none { ⌜ now bounds ≡ kept.noBounds ⌝ }
+    ensures fine { λ r. ⌜ r ≡ grantsFine (wordsOf (now (grants .entry))) ⌝ }
+    ensures starts { λ _. ⌜ now (starts .exit) ≡ kept.keptAfter (wordsOf (now (grants .entry))) (now (starts .entry)) (now (lasts .entry)) .starts ⌝ }
+    ensures lasts { λ _. ⌜ now (lasts .exit) ≡ kept.keptAfter (wordsOf (now (grants .entry))) (now (starts .entry)) (now (lasts .entry)) .lasts ⌝ }
+    ensures bounds { λ _. ⌜ now (bounds .exit) ≡ kept.keptAfter (wordsOf (now (grants .entry))) (now (starts .entry)) (now (lasts .entry)) .bounds ⌝ }
 {
-    let targets = keep_role(grants, 1, spans, 0);
-    let firsts = keep_role(grants, 2, spans, targets);
-    let seconds = keep_role(grants, 3, spans, firsts);
-    Kept {
-        targets,
-        firsts,
-        seconds,
-    }
-}
-
-// The difference is taken only once it is known not to wrap.
-fn in_span(start: u32, width: u32, address: u32) -> bool
-    ensures within { λ r. ⌜ r ≡ (leb start address && leb (address - start) width) ⌝ }
-{
-    if address < start {
+    let mut counts = [0usize; 4];
+    if !count_roles(grants, &mut counts) {
         return false;
     }
-    address - start <= width
+    let second = counts[1];
+    let third = second + counts[2];
+    bounds[2] = second;
+    bounds[3] = third;
+    bounds[6] = second;
+    bounds[7] = third;
+    place(grants, starts, lasts, bounds);
+    true
 }
 
-// The address lies in one of the spans.
-pub fn covered(spans: &[u32], address: u32) -> bool
-    ensures covered { λ r. ⌜ r ≡ coveredBy (now (spans .entry)) address ⌝ }
+// The part of a role.
+pub fn part_of(bounds: &Bounds, role: usize) -> Part
+    requires role { ⌜ role < 4 ⌝ }
+    ensures part { λ r. ⌜ r ≡ kept.partOf (now (bounds .entry)) role ⌝ }
 {
-    let mut i = 0;
-    while i + 2 <= spans.len() {
-        if in_span(spans[i], spans[i + 1], address) {
+    Part {
+        from: bounds[role],
+        to: bounds[4 + role],
+    }
+}
+
+// A kept grant covers the address.
+fn covers(starts: &Spans, lasts: &Spans, i: usize, address: u32) -> bool
+    requires inside { ⌜ i < mostGrants ⌝ }
+    ensures covers { λ r. ⌜ r ≡ kept.coversAt (now (starts .entry)) (now (lasts .entry)) i address ⌝ }
+{
+    if address < starts[i] {
+        return false;
+    }
+    address <= lasts[i]
+}
+
+// Some grant of the part covers the address. The last is asked behind the loop, so that no reason for a miss is made ready inside it.
+pub fn covered(starts: &Spans, lasts: &Spans, part: Part, address: u32) -> bool
+    requires inside { ⌜ part .to ≤ mostGrants ⌝ }
+    ensures covered { λ r. ⌜ r ≡ kept.coveredIn (now (starts .entry)) (now (lasts .entry)) part address ⌝ }
+{
+    if part.to <= part.from {
+        return false;
+    }
+    let last = part.to - 1;
+    let mut i = part.from;
+    while i < last {
+        if covers(starts, lasts, i, address) {
             return true;
         }
-        i += 2;
+        i += 1;
     }
-    false
+    covers(starts, lasts, last, address)
 }

@@ -1,14 +1,16 @@
 -- Reason 13, and the answers that it lets through, as one number.
 -- Assumes nothing.
-use mathlib.Core.Path.{_≡_, refl, ap, _∙_}
-use mathlib.Core.Bool.{Bool, true, false, _&&_, cond}
+use mathlib.Core.Path.{_≡_, refl, sym, ap, _∙_}
+use mathlib.Core.Bool.{Bool, true, false, _&&_, cond, and-true, and-false, and-assoc}
 use mathlib.Core.List.{List, [], _∷_, append-nil}
 use Prim.Native.Nat.{ℕ, zero, suc, _/_, _%_, _≤_}
 use native.Mathlib.Omega.{arith}
 use lib.Dec.{eqb, leb→le}
+use lib.Bits.{bitOr}
 use lib.ListN.{length, length-set, drop-of-length-le}
 use mir.Facts.{and-yes, eqb-yes}
 use Rattle.laws.specs.Lists.{every, over}
+use Rattle.laws.proofs.Bits.{or-four}
 use Rattle.laws.proofs.Tests.{holds-of}
 use Rattle.meaning.specs.declared.Kind.{Kind}
 use Rattle.meaning.specs.declared.Kind.the-variants.{Setting}
@@ -24,10 +26,35 @@ use Rattle.meaning.specs.Lister.{listAnswer, listLeaves}
 use Rattle.meaning.specs.Calls.{mostBytes, bufferFine, wordBufferFine, readCall, readCallLeaves, writeCall, writeCallLeaves, listCall, listCallLeaves}
 use Rattle.meaning.proofs.Bytes.{length-words, length-bytes}
 
+-- ---- three buffers of words
+
+module _ (a b c : List ℕ) where
+  abbrev all-three : Bool
+  all-three = every wordBufferFine (a ∷ b ∷ c ∷ [])
+
+  pub first-long : bufferFine a ≡ false → false ≡ all-three
+  unfolding every wordBufferFine
+  first-long e = rw e
+
+  pub second-long : bufferFine b ≡ false → false ≡ all-three
+  unfolding every wordBufferFine
+  second-long e = rw e (sym (and-false (wordBufferFine a)))
+
+  pub third-long : bufferFine c ≡ false → false ≡ all-three
+  unfolding every wordBufferFine
+  third-long e = rw e (sym (ap (_&&_ (wordBufferFine a)) (and-false (wordBufferFine b)) ∙ and-false (wordBufferFine a)))
+
+  -- where none is too long, `|` of the lengths is a multiple of 4 exactly if each is
+  pub none-long : bufferFine a ≡ true → bufferFine b ≡ true → bufferFine c ≡ true → eqb (bitOr (bitOr (length a) (length b)) (length c) % 4) 0 ≡ all-three
+  unfolding every wordBufferFine
+  none-long ea eb ec =
+      rw (ea, eb, ec, or-four (bitOr (length a) (length b)) (length c), or-four (length a) (length b), and-true (eqb (length c % 4) 0))
+      (and-assoc (eqb (length a % 4) 0) (eqb (length b % 4) 0) (eqb (length c % 4) 0))
+
 -- ---- read
 
 -- as many as there are take the place of all
-over-all : (new old : List ℕ) → length new ≡ length old → over new old ≡ new
+pub over-all : (new old : List ℕ) → length new ≡ length old → over new old ≡ new
 over-all new old e = let few : length old ≤ length new = omega arith in rw (drop-of-length-le old few) (append-nil new)
 
 length-applied : (st : List ℕ) (ws : List Write) → length (applyAll st ws) ≡ length st
@@ -47,7 +74,7 @@ run-within g kind k (w ∷ ws) = by (judge g kind k w) (run g (nextKind kind k w
     by (suc r) a h = omega arith
 
 -- a state stays as long as it was
-length-leaves : (batch gs st : List ℕ) → length (readLeaves batch gs st) ≡ length st
+pub length-leaves : (batch gs st : List ℕ) → length (readLeaves batch gs st) ≡ length st
 unfolding readLeaves
 length-leaves batch gs st = by (eqb (readAnswer batch gs st .reason) success)
   where
@@ -72,7 +99,7 @@ module _ (batch gs st : List ℕ) where
       let third = and-yes (wordBufferFine st) _ (second .1) in
       (leb→le (length batch) mostBytes (and-yes (bufferFine batch) _ (first .0) .0), eqb-yes (and-yes (bufferFine st) _ (third .0) .1))
 
-  whole-state : Fine true → over (bytesOf (readLeaves (wordsOf batch) (wordsOf gs) (wordsOf st))) st ≡ bytesOf (readLeaves (wordsOf batch) (wordsOf gs) (wordsOf st))
+  pub whole-state : Fine true → over (bytesOf (readLeaves (wordsOf batch) (wordsOf gs) (wordsOf st))) st ≡ bytesOf (readLeaves (wordsOf batch) (wordsOf gs) (wordsOf st))
   whole-state e =
       over-all _ st
       (length-bytes (readLeaves (wordsOf batch) (wordsOf gs) (wordsOf st)) ∙ omega (arith, length-leaves (wordsOf batch) (wordsOf gs) (wordsOf st), length-words st, told e .1))

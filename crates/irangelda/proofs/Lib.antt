@@ -1,2 +1,2 @@
-pub mod Enough
+pub mod Places
 pub mod Buffers

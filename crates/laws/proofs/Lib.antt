@@ -1,4 +1,5 @@
 pub mod Arms
+pub mod Bits
 pub mod Lists
 pub mod Rest
 pub mod Stores

@@ -1,11 +1,11 @@
 -- The lines of marked cells: how many, how long, and a loop that stores them one behind the other.
 -- Assumes nothing.
 use mathlib.Core.Path.{_≡_, refl, sym, ap, _∙_}
-use mathlib.Core.List.{List, _∷_, _++_}
+use mathlib.Core.List.{List, [], _∷_, _++_}
 use Prim.Native.Nat.{ℕ, zero, suc, _+_, _*_, _-_, _≤_, _<_}
 use native.Mathlib.Omega.{arith}
-use native.Mathlib.Nat.{zero-add, add-zero, suc-add, add-suc, mul-zero, mul-add, mul-one}
-use lib.ListN.{length, length-append}
+use native.Mathlib.Nat.{zero-add, add-zero, suc-add, add-suc, mul-zero, mul-add, mul-one, lt-of-not-le}
+use lib.ListN.{length, length-append, drop-of-length-le}
 use lib.Seq.{sets, length-sets}
 use Rattle.laws.specs.Lists.{join}
 use Rattle.meaning.specs.declared.Cell.{Cell}
@@ -13,7 +13,7 @@ use Rattle.meaning.specs.Registers.{cell}
 use Rattle.meaning.specs.State.{valueAt, markAt}
 use Rattle.meaning.specs.Writer.{ifMarked}
 use Rattle.states.specs.Marks.{oneIfMarked, markedIn}
-use Rattle.states.proofs.Counted.{marked-next, one-marked}
+use Rattle.states.proofs.Counted.{marked-next, marked-none, one-marked}
 use Rattle.lister.specs.Lines.{linesFrom}
 use Rattle.laws.proofs.Stores.{sets-behind}
 
@@ -85,61 +85,76 @@ lines-next line st i end l =
     let s : i + 1 ≡ suc i = omega arith in
     rw (e, s)
 
--- ---- the loop over the cells from `first` to before `end`
+-- of lines that are left, the next one
+one-line : (wide left : ℕ) → 0 < left → wide * left ≡ wide + wide * (left - 1)
+one-line wide left l = let e : left ≡ 1 + (left - 1) = omega arith in ap (λ (n : ℕ). wide * n) e ∙ rw (mul-add, mul-one)
 
--- The lines that are left, stored from `at` on over what stands there now, give what all lines give over what stood there; and they end at
--- the same place.
-pub record Going (line : Cell → ℕ → List ℕ) (wide : ℕ) (st : List ℕ) (first end : ℕ) (out₀ : List ℕ) (start : ℕ) (out : List ℕ) (at c : ℕ) : Type 0 where
+-- ---- the loop over the cells from `first` to before `end`, or as long as a marked one is left
+
+-- As many lines are left as marked cells. Stored from `at` on over what stands there now, they give what all lines give over what stood
+-- there; and they end at the same place.
+pub record Going (line : Cell → ℕ → List ℕ) (wide : ℕ) (st : List ℕ) (first end : ℕ) (out₀ : List ℕ) (start : ℕ) (out : List ℕ) (left at c : ℕ) : Type 0 where
   pub past : first ≤ c
-  pub within : c ≤ end
+  pub count : left ≡ markedIn st c (end - c)
   pub same : length out ≡ length out₀
-  pub place : at + wide * markedIn st c (end - c) ≡ start + wide * markedIn st first (end - first)
+  pub place : at + wide * left ≡ start + wide * markedIn st first (end - first)
   pub stored : sets out at (join (linesFrom line st c (end - c))) ≡ sets out₀ start (join (linesFrom line st first (end - first)))
 
 module _ {line : Cell → ℕ → List ℕ} {wide : ℕ} {st : List ℕ} {first end : ℕ} {out₀ : List ℕ} {start : ℕ} where
   -- no cell is passed
-  pub begin : first ≤ end → Going line wide st first end out₀ start out₀ start first
-  begin h = record { past = omega arith; within = h; same = refl; place = refl; stored = refl }
+  pub begin : {count : ℕ} → count ≡ markedIn st first (end - first) → Going line wide st first end out₀ start out₀ count start first
+  begin e = record { past = omega arith; count = e; same = refl; place = rw e; stored = refl }
 
-  module _ {out : List ℕ} {at c : ℕ} (g : Going line wide st first end out₀ start out at c) where
-    -- all cells are passed
-    pub ended : end ≤ c → out ≡ sets out₀ start (join (linesFrom line st first (end - first)))
-    unfolding linesFrom
+  module _ {out : List ℕ} {left at c : ℕ} (g : Going line wide st first end out₀ start out left at c) where
+    -- where no loop counts the marked cells, they are counted here
+    pub counted : Going line wide st first end out₀ start out (markedIn st c (end - c)) at c
+    counted = record { past = g .past; count = refl; same = g .same; place = rw (g .count) at (g .place); stored = g .stored }
+
+    -- no marked cell is left
+    pub ended : left ≤ 0 → out ≡ sets out₀ start (join (linesFrom line st first (end - first)))
     ended h =
-        let none : end - c ≡ 0 = omega arith in
+        let none : linesFrom line st c (end - c) ≡ [] = drop-of-length-le _ {i = 0} (omega (arith, lines-count line st c (end - c), g .count)) in
         rw none at (g .stored)
 
-    module _ (l : c < end) where
+    -- a marked cell is left, and so a cell,
+    pub further : 0 < left → c < end
+    further some = lt-of-not-le (λ h. omega (arith, g .count, marked-none st c (end - c) (omega arith)))
+
+    -- and room for a line
+    pub fits : 0 < left → start + wide * markedIn st first (end - first) ≤ length out₀ → at + wide ≤ length out
+    fits some h = omega (arith, one-line wide left some, g .place, g .same)
+
+    -- a cell is left, and its mark is read
+    module _ (more : c < end) {mark : ℕ} (read : mark ≡ markAt st (cell c)) where
       -- an unmarked cell has no line
-      pub passed : markAt st (cell c) ≡ 0 → Going line wide st first end out₀ start out at (c + 1)
+      pub passed : mark ≡ 0 → Going line wide st first end out₀ start out left at (c + 1)
       unfolding oneIfMarked
       passed m = record {
-        past = omega arith;
-        within = omega arith;
+        past = omega (arith, g .past);
+        count = g .count ∙ rw (marked-next st c end more, ← read, m, zero-add);
         same = g .same;
-        place = rw (marked-next st c end l, m, zero-add) at (g .place);
-        stored = rw (lines-next line st c end l, m) at (g .stored);
+        place = g .place;
+        stored = rw (lines-next line st c end more, ← read, m) at (g .stored);
       }
 
-      module _ (m : markAt st (cell c) ≡ 0 → ⊥) where
-        -- a marked cell has one,
-        more : wide * markedIn st c (end - c) ≡ wide + wide * markedIn st (c + 1) (end - (c + 1))
-        more = rw (marked-next st c end l, one-marked (markAt st (cell c)) m, mul-add, mul-one)
+      module _ (m : mark ≡ 0 → ⊥) where
+        marked : markAt st (cell c) ≡ 0 → ⊥
+        marked z = m (read ∙ z)
 
-        -- for which there is room,
-        pub fits : start + wide * markedIn st first (end - first) ≤ length out₀ → at + wide ≤ length out
-        fits h = omega (arith, more)
+        -- a marked one is one of those that are left
+        pub some : 0 < left
+        some = omega (arith, g .count, marked-next st c end more, one-marked (markAt st (cell c)) marked)
 
-        -- and it is stored
-        pub stored-line : (new : List ℕ) → new ≡ sets out at (line (cell c) (valueAt st (cell c))) → length (line (cell c) (valueAt st (cell c))) ≡ wide
-            → Going line wide st first end out₀ start new (at + wide) (c + 1)
-        stored-line new e w = record {
-          past = omega arith;
-          within = omega arith;
-          same = ap length e ∙ length-sets out at (line (cell c) (valueAt st (cell c))) ∙ g .same;
-          place = omega (arith, more);
+        -- its line is stored, with the value that is read
+        pub stored-line : {value : ℕ} → value ≡ valueAt st (cell c) → (new : List ℕ) → new ≡ sets out at (line (cell c) value) → length (line (cell c) value) ≡ wide
+            → Going line wide st first end out₀ start new (left - 1) (at + wide) (c + 1)
+        stored-line {value} v new e w = record {
+          past = omega (arith, g .past);
+          count = omega (arith, g .count, marked-next st c end more, one-marked (markAt st (cell c)) marked);
+          same = ap length e ∙ length-sets out at (line (cell c) value) ∙ g .same;
+          place = omega (arith, one-line wide left some, g .place);
           stored =
               rw e
-              (sets-behind out at (at + wide) (line (cell c) (valueAt st (cell c))) _ (omega arith)
-              ∙ (rw (lines-next line st c end l, if-marked (markAt st (cell c)) m) at (g .stored)));
+              (sets-behind out at (at + wide) (line (cell c) value) _ (omega arith)
+              ∙ (rw (lines-next line st c end more, if-marked (markAt st (cell c)) marked, ← v) at (g .stored)));
         }

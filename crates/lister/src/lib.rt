@@ -5,6 +5,7 @@ ghost use Prim.Native.Nat.{_+_, _*_, _<_, _≤_};
 ghost use lib.ListN.{length};
 ghost use lib.Seq.{sets};
 ghost use Rattle.laws.specs.Lists.{join};
+ghost use Rattle.meaning.specs.Words.{wordsOf};
 ghost use Rattle.meaning.specs.State.{stateWords};
 ghost use Rattle.meaning.specs.Text.{ascii};
 ghost use Rattle.meaning.specs.Lister.{digit, hex, decimal, listAnswer, listLeaves};
@@ -133,35 +134,39 @@ fn put_line_video(pairs: &[u8; 512], out: &mut [u8], at: usize, cell: Cell, valu
     put_value(pairs, out, at + 8, value);
 }
 
-// Each kind of line has a loop of its own, so that no turn asks which kind its cell is.
-fn put_lines_3d(pairs: &[u8; 512], state: &[u32], out: &mut [u8], start: usize)
+// Each kind of line has a loop of its own, so that no turn asks which kind its cell is. This one counts down the lines, and so ends with
+// the last marked cell: a state has few marked cells more often than all. The cells of the other are few, and it is quicker as it stands.
+fn put_lines_3d(pairs: &[u8; 512], state: &[u8], out: &mut [u8], start: usize, count: usize)
     requires table { ⌜ now pairs ≡ digitPairs ⌝ }
-    requires whole { ⌜ length (now state) ≡ stateWords ⌝ }
-    requires room { ⌜ start + 26 * markedIn (now state) 0 84 ≤ length (now out) ⌝ }
-    ensures stored { λ _. ⌜ now (out .exit) ≡ sets (now (out .entry)) start (join (linesFrom cellLine3D (now (state .entry)) 0 84)) ⌝ }
+    requires whole { ⌜ length (wordsOf (now state)) ≡ stateWords ⌝ }
+    requires count { ⌜ count ≡ markedIn (wordsOf (now state)) 0 84 ⌝ }
+    requires room { ⌜ start + 26 * markedIn (wordsOf (now state)) 0 84 ≤ length (now out) ⌝ }
+    ensures stored { λ _. ⌜ now (out .exit) ≡ sets (now (out .entry)) start (join (linesFrom cellLine3D (wordsOf (now (state .entry))) 0 84)) ⌝ }
 {
+    let mut left = count;
     let mut at = start;
     let mut c = 0;
-    while c < 84 {
-        if state[101 + c] != 0 {
-            put_line_3d(pairs, out, at, Cell(c), state[c]);
+    while 0 < left {
+        if states::mark(state, Cell(c)) != 0 {
+            put_line_3d(pairs, out, at, Cell(c), states::value(state, Cell(c)));
             at += 26;
+            left -= 1;
         }
         c += 1;
     }
 }
 
-fn put_lines_video(pairs: &[u8; 512], state: &[u32], out: &mut [u8], start: usize)
+fn put_lines_video(pairs: &[u8; 512], state: &[u8], out: &mut [u8], start: usize)
     requires table { ⌜ now pairs ≡ digitPairs ⌝ }
-    requires whole { ⌜ length (now state) ≡ stateWords ⌝ }
-    requires room { ⌜ start + 22 * markedIn (now state) 84 17 ≤ length (now out) ⌝ }
-    ensures stored { λ _. ⌜ now (out .exit) ≡ sets (now (out .entry)) start (join (linesFrom cellLineVideo (now (state .entry)) 84 17)) ⌝ }
+    requires whole { ⌜ length (wordsOf (now state)) ≡ stateWords ⌝ }
+    requires room { ⌜ start + 22 * markedIn (wordsOf (now state)) 84 17 ≤ length (now out) ⌝ }
+    ensures stored { λ _. ⌜ now (out .exit) ≡ sets (now (out .entry)) start (join (linesFrom cellLineVideo (wordsOf (now (state .entry))) 84 17)) ⌝ }
 {
     let mut at = start;
     let mut c = 84;
     while c < 101 {
-        if state[101 + c] != 0 {
-            put_line_video(pairs, out, at, Cell(c), state[c]);
+        if states::mark(state, Cell(c)) != 0 {
+            put_line_video(pairs, out, at, Cell(c), states::value(state, Cell(c)));
             at += 22;
         }
         c += 1;
@@ -225,9 +230,9 @@ fn put_head(out: &mut [u8], n: usize, digits: usize)
 }
 
 // Lists the marked cells of a state: 1 if the state is not well-formed, 11 if the output is too short, else 0 and the bytes written.
-pub fn list(state: &[u32], out: &mut [u8]) -> Answer
-    ensures answer { λ r. ⌜ r ≡ listAnswer (now (state .entry)) (length (now (out .entry))) ⌝ }
-    ensures bytes { λ _. ⌜ now (out .exit) ≡ listLeaves (now (state .entry)) (now (out .entry)) ⌝ }
+pub fn list(state: &[u8], out: &mut [u8]) -> Answer
+    ensures answer { λ r. ⌜ r ≡ listAnswer (wordsOf (now (state .entry))) (length (now (out .entry))) ⌝ }
+    ensures bytes { λ _. ⌜ now (out .exit) ≡ listLeaves (wordsOf (now (state .entry))) (now (out .entry)) ⌝ }
 {
     if !states::well_formed(state) {
         return Answer {
@@ -249,7 +254,7 @@ pub fn list(state: &[u32], out: &mut [u8]) -> Answer
     }
     let pairs = DIGIT_PAIRS;
     put_head(out, in_3d + in_video, digits);
-    put_lines_3d(&pairs, state, out, first_line);
+    put_lines_3d(&pairs, state, out, first_line, in_3d);
     put_lines_video(&pairs, state, out, first_video);
     Answer {
         reason: 0,

@@ -34,7 +34,7 @@ use Rattle.meaning.proofs.Bytes.{words-bytes, length-words, length-byte
 abbrev pub Byte : ℕ → Type 0
 Byte b = b < 2 ^ 8
 
-words-small : (bs : List ℕ) → All Byte bs → All Word (wordsOf bs)
+pub words-small : (bs : List ℕ) → All Byte bs → All Word (wordsOf bs)
 words-small [] x = tt
 words-small (a ∷ []) x = tt
 words-small (a ∷ b ∷ []) x = tt
@@ -60,7 +60,7 @@ applied-small st (w ∷ ws) a s =
 packets-small : (g : Terms) (ps : List (List ℕ)) → All (Packet g) ps → All Word (join ps) → All (λ w. Word (w .value)) (allWrites ps)
 packets-small g = stored g (λ (w : Write). Word (w .value)) Word (λ c v l n s. omega arith) (λ c v l n s. n)
 
-left-small : (batch st : List ℕ) (g : Terms) → Cut g batch → All Word batch → All Word st → All Word (applyAll st (writesOf batch))
+pub left-small : (batch st : List ℕ) (g : Terms) → Cut g batch → All Word batch → All Word st → All Word (applyAll st (writesOf batch))
 left-small batch st g c b s =
     let w : All Word (join (c .packets)) = rw (c .joined) b in
     rw (writes-of-cut g batch c) (applied-small st (allWrites (c .packets)) (packets-small g (c .packets) (c .permitted) w) s)
@@ -83,7 +83,7 @@ words-drop (suc n) (a ∷ b ∷ []) = rw (four-on n)
 words-drop (suc n) (a ∷ b ∷ c ∷ []) = rw (four-on n)
 words-drop (suc n) (a ∷ b ∷ c ∷ d ∷ bs) = rw (four-on n) (words-drop n bs)
 
-words-over : (ws bs : List ℕ) → All Word ws → wordsOf (over (bytesOf ws) bs) ≡ over ws (wordsOf bs)
+pub words-over : (ws bs : List ℕ) → All Word ws → wordsOf (over (bytesOf ws) bs) ≡ over ws (wordsOf bs)
 words-over ws bs a =
     words-append ws (drop (length (bytesOf ws)) bs) a
     ∙ ap (λ (l : List ℕ). ws ++ l) (ap (λ (n : ℕ). wordsOf (drop n bs)) (length-bytes ws) ∙ words-drop (length ws) bs)

@@ -9,6 +9,9 @@ pub struct SubAddress(pub u32);
 // and the byte offset of a video register.
 pub struct VideoOffset(pub u32);
 
+// A state as the code holds it: 101 values, then 101 marks.
+pub type State = [u32; 202];
+
 // What a name names: the cell of a register, or no register of the table.
 pub enum Found {
     At(Cell),

@@ -1,5 +1,3 @@
 pub mod Packets
-pub mod Windows
-pub mod Runs
 pub mod Settings
 pub mod Headers

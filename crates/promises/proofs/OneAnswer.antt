@@ -2,17 +2,14 @@
 -- A contract is taken as its callers read it: NAME.Learnt, of lifetimes, arguments, an answer and the buffers at exit. Where the callers'
 -- part is needed too, it is NAME.Asked.
 -- Assumes nothing.
-use mathlib.Core.Path.{_≡_, sym, _∙_}
+use mathlib.Core.Path.{_≡_, sym, ap₂, _∙_}
 use mathlib.Core.List.{[]}
+use Prim.Native.Nat.{ℕ}
 use native.Mathlib.Omega.{arith}
 use denote.Ref.{now}
 use Rattle.meaning.specs.Grants.{Terms}
-use Rattle.grants.specs.Spans.{held}
-use Rattle.grants.proofs.Spans.{held-1, held-2, held-3}
-use Rattle.registers.specs.Names.{offsetOf}
-use Rattle.registers.proofs.Names.{named-video}
-use Rattle.numbers.proofs.lesser.Reads as lesser
-use Rattle.numbers.proofs.wide.Reads as wide
+use Rattle.grants.proofs.Keeping.{part-some, kept-some}
+use Rattle.verdicts.specs.Scalers.{first}
 use Rattle.fields.proofs.count.Reads as count
 use Rattle.fields.proofs.offset.Reads as offset
 use Rattle.fields.proofs.sub_type.Reads as sub-type
@@ -29,13 +26,17 @@ use Rattle.values.proofs.mapping.Reads as mapping
 use Rattle.values.proofs.alpha_select.Reads as alpha-select
 use Rattle.values.proofs.memory_location.Reads as memory-location
 use Rattle.registers.proofs.register_3d.Reads as register-3d
-use Rattle.registers.proofs.register_video.Reads as register-video
-use Rattle.registers.proofs.row_from.Reads as row-from
 use Rattle.registers.proofs.name_of.Reads as name-of
 use Rattle.registers.proofs.offset_of.Reads as offset-of
+use Rattle.words.proofs.word.Reads as word
+use Rattle.words.proofs.put_word.Reads as put-word
+use Rattle.states.proofs.value.Reads as value
+use Rattle.states.proofs.mark.Reads as mark
+use Rattle.states.proofs.load.Reads as load
+use Rattle.states.proofs.store.Reads as store
 use Rattle.states.proofs.well_formed.Reads as well-formed
 use Rattle.states.proofs.marked_between.Reads as marked-between
-use Rattle.grants.proofs.grants_fine.Reads as grants-fine
+use Rattle.grants.proofs.part_of.Reads as part-of
 use Rattle.grants.proofs.covered.Reads as covered
 use Rattle.verdicts.proofs.alpha_constants_reason.Reads as alpha-constants-reason
 use Rattle.verdicts.proofs.target_address_reason.Reads as target-address-reason
@@ -47,22 +48,26 @@ use Rattle.verdicts.proofs.filters_reason.Reads as filters-reason
 use Rattle.verdicts.proofs.mapping_reason.Reads as mapping-reason
 use Rattle.verdicts.proofs.overlay_reason.Reads as overlay-reason
 use Rattle.verdicts.proofs.alpha_select_reason.Reads as alpha-select-reason
-use Rattle.verdicts.proofs.scaler_reason.Reads as scaler-reason
+use Rattle.verdicts.proofs.deinterlace_reason.Reads as deinterlace-reason
+use Rattle.verdicts.proofs.sub_picture_reason.Reads as sub-picture-reason
+use Rattle.verdicts.proofs.first_address_reason.Reads as first-address-reason
+use Rattle.verdicts.proofs.address_reason.Reads as address-reason
+use Rattle.verdicts.proofs.destination_stride_reason.Reads as destination-stride-reason
+use Rattle.verdicts.proofs.source_stride_reason.Reads as source-stride-reason
+use Rattle.emitter.specs.declared.Need.{Need}
 use Rattle.emitter.proofs.needed.Reads as needed
 use Rattle.grants.proofs.keep.Reads as keep
-use Rattle.words.proofs.words_from.Reads as words-from
-use Rattle.words.proofs.bytes_from.Reads as bytes-from
 use Rattle.reader.proofs.read.Reads as read
 use Rattle.writer.proofs.write.Reads as write
 use Rattle.lister.proofs.list.Reads as list
 use Rattle.emitter.proofs.emit.Reads as emit
-use Rattle.states.proofs.copy.Reads as copy
 use Rattle.bodies.proofs.take_target.Reads as take-target
 use Rattle.bodies.proofs.take_stage.Reads as take-stage
 use Rattle.bodies.proofs.take_sample.Reads as take-sample
-use Rattle.bodies.proofs.take_run.Reads as take-run
+use Rattle.bodies.proofs.take_overlay.Reads as take-overlay
+use Rattle.bodies.proofs.take_scaler.Reads as take-scaler
+use Rattle.packets.proofs.read_packet.Reads as read-packet
 use Rattle.packets.proofs.read_packets.Reads as read-packets
-use Rattle.windows.proofs.read.Reads as read-windows
 use Rattle.irangelda.proofs.irangelda_read.Reads as irangelda-read
 use Rattle.irangelda.proofs.irangelda_write.Reads as irangelda-write
 use Rattle.irangelda.proofs.irangelda_list.Reads as irangelda-list
@@ -74,14 +79,6 @@ one-answer p q = p ∙ sym q
 -- a contract that allows one answer
 abbrev Determined {ℓ} : {K : Type ℓ} {A R S : K → Type ℓ} (L : (κ : K) → A κ → R κ → S κ → Type ℓ) → Type ℓ
 Determined L = (κs : _) (a : _) (r r' : _) (s s' : _) → L κs a r s → L κs a r' s' → r ≡ r'
-
--- ---- numbers
-
-pub lesser-one : Determined lesser.Learnt
-lesser-one κs a r r' s s' p q = one-answer p q
-
-pub wide-one : Determined wide.Learnt
-wide-one κs a r r' s s' p q = one-answer (p .0) (q .0)
 
 -- ---- fields
 
@@ -137,19 +134,22 @@ memory-location-one κs a r r' s s' p q = one-answer p q
 pub register-3d-one : Determined register-3d.Learnt
 register-3d-one κs a r r' s s' p q = one-answer p q
 
-pub register-video-one : Determined register-video.Learnt
-register-video-one κs a r r' s s' p q = one-answer p q
-
-pub row-from-one : Determined row-from.Learnt
-row-from-one κs a r r' s s' p q = one-answer p q
-
 pub name-of-one : Determined name-of.Learnt
 name-of-one κs a r r' s s' p q = one-answer p q
 
 pub offset-of-one : Determined offset-of.Learnt
 offset-of-one κs a r r' s s' p q = one-answer p q
 
--- ---- states
+-- ---- words and states
+
+pub word-one : Determined word.Learnt
+word-one κs a r r' s s' p q = one-answer p q
+
+pub value-one : Determined value.Learnt
+value-one κs a r r' s s' p q = one-answer p q
+
+pub mark-one : Determined mark.Learnt
+mark-one κs a r r' s s' p q = one-answer p q
 
 pub well-formed-one : Determined well-formed.Learnt
 well-formed-one κs a r r' s s' p q = one-answer p q
@@ -159,25 +159,25 @@ marked-between-one κs a r r' s s' p q = one-answer p q
 
 -- ---- grants
 
-pub grants-fine-one : Determined grants-fine.Learnt
-grants-fine-one κs a r r' s s' p q = one-answer p q
+pub part-of-one : Determined part-of.Learnt
+part-of-one κs a r r' s s' p q = one-answer p q
 
 pub covered-one : Determined covered.Learnt
 covered-one κs a r r' s s' p q = one-answer p q
 
 -- ---- verdicts
 
--- a contract that holds for any terms is taken at those without a grant; one that asks for spans, at the terms that the spans stand for
+-- a contract that holds for any terms is taken at those without a grant; one that asks what is kept, at terms that are kept so
 abbrev ungranted : Terms
-ungranted = held [] [] []
+ungranted = record { grants = [] }
 
 pub alpha-constants-reason-one : Determined alpha-constants-reason.Learnt
 alpha-constants-reason-one κs a r r' s s' p q = one-answer (p ungranted) (q ungranted)
 
 pub target-address-reason-one : Determined target-address-reason.Learnt
 target-address-reason-one κs a r r' s s' p q =
-    let spans = now (a .1 .0) in
-    one-answer (p (held spans [] []) (held-1 spans [] [])) (q (held spans [] []) (held-1 spans [] []))
+    let k = part-some 1 (now (a .1 .0)) (now (a .1 .1 .0)) (a .1 .1 .1 .0) in
+    one-answer (p (k .0) (k .1)) (q (k .0) (k .1))
 
 pub location-reason-one : Determined location-reason.Learnt
 location-reason-one κs a r r' s s' p q = one-answer (p ungranted) (q ungranted)
@@ -203,32 +203,57 @@ overlay-reason-one κs a r r' s s' p q = one-answer (p ungranted 84 (omega arith
 pub alpha-select-reason-one : Determined alpha-select-reason.Learnt
 alpha-select-reason-one κs a r r' s s' p q = one-answer (p ungranted) (q ungranted)
 
-pub scaler-reason-one : Determined scaler-reason.Learnt
-scaler-reason-one κs a r r' s s' p q =
-    let spans = now (a .1 .1 .0) in
-    one-answer (p .0 (held [] spans []) (held-2 [] spans [])) (q .0 (held [] spans []) (held-2 [] spans []))
+pub deinterlace-reason-one : Determined deinterlace-reason.Learnt
+deinterlace-reason-one κs a r r' s s' p q = one-answer (p ungranted 87 2 first) (q ungranted 87 2 first)
+
+pub sub-picture-reason-one : Determined sub-picture-reason.Learnt
+sub-picture-reason-one κs a r r' s s' p q = one-answer (p ungranted 87 2 first) (q ungranted 87 2 first)
+
+pub first-address-reason-one : Determined first-address-reason.Learnt
+first-address-reason-one κs a r r' s s' p q =
+    let k = part-some 2 (now (a .1 .0)) (now (a .1 .1 .0)) (a .1 .1 .1 .0) in
+    one-answer (p (k .0) 87 2 first (k .1)) (q (k .0) 87 2 first (k .1))
+
+pub address-reason-one : Determined address-reason.Learnt
+address-reason-one κs a r r' s s' p q =
+    let k = part-some 2 (now (a .1 .0)) (now (a .1 .1 .0)) (a .1 .1 .1 .0) in
+    one-answer (p .0 (k .0) 87 2 first (k .1)) (q .0 (k .0) 87 2 first (k .1))
+
+pub destination-stride-reason-one : Determined destination-stride-reason.Learnt
+destination-stride-reason-one κs a r r' s s' p q = one-answer (p ungranted 87 2 first) (q ungranted 87 2 first)
+
+pub source-stride-reason-one : Determined source-stride-reason.Learnt
+source-stride-reason-one κs a r r' s s' p q = one-answer (p ungranted 87 2 first) (q ungranted 87 2 first)
 
 -- ---- emitter
 
+abbrev need : ℕ → ℕ → Need
+need x y = record { «in_3d» = x; «in_all» = y }
+
 pub needed-one : Determined needed.Learnt
-needed-one κs a r r' s s' p q = one-answer p q
+needed-one κs a r r' s s' p q = ap₂ need (one-answer (p .0) (q .0)) (one-answer (p .1) (q .1))
 
 -- ---- functions that change a lent buffer: the answer and the buffer
 
-pub keep-one : (κs : _) (a : _) (r r' : _) (s s' : _) → keep.Learnt κs a r s → keep.Learnt κs a r' s' → (r ≡ r') × (now (s .1 .0) ≡ now (s' .1 .0))
-keep-one κs a r r' s s' p q = (one-answer (p .0) (q .0), one-answer (p .1) (q .1))
+pub put-word-one : (κs : _) (a : _) (r r' : _) (s s' : _) → put-word.Learnt κs a r s → put-word.Learnt κs a r' s' → now (s .0) ≡ now (s' .0)
+put-word-one κs a r r' s s' p q = one-answer p q
 
-pub words-from-one : (κs : _) (a : _) (r r' : _) (s s' : _) → words-from.Learnt κs a r s → words-from.Learnt κs a r' s' → (r ≡ r') × (now (s .1 .1 .0) ≡ now (s' .1 .1 .0))
-words-from-one κs a r r' s s' p q = (one-answer (p .0) (q .0), one-answer (p .1) (q .1))
+pub load-one : (κs : _) (a : _) (r r' : _) (s s' : _) → load.Learnt κs a r s → load.Learnt κs a r' s' → now (s .1 .0) ≡ now (s' .1 .0)
+load-one κs a r r' s s' p q = one-answer p q
 
-pub bytes-from-one : (κs : _) (a : _) (r r' : _) (s s' : _) → bytes-from.Learnt κs a r s → bytes-from.Learnt κs a r' s' → (r ≡ r') × (now (s .1 .0) ≡ now (s' .1 .0))
-bytes-from-one κs a r r' s s' p q = (one-answer (p .0) (q .0), one-answer (p .1) (q .1))
+pub store-one : (κs : _) (a : _) (r r' : _) (s s' : _) → store.Learnt κs a r s → store.Learnt κs a r' s' → now (s .1 .0) ≡ now (s' .1 .0)
+store-one κs a r r' s s' p q = one-answer p q
 
+pub keep-one : (κs : _) (a : _) (r r' : _) (s s' : _) → keep.Learnt κs a r s → keep.Learnt κs a r' s'
+    → (r ≡ r') × (now (s .1 .0) ≡ now (s' .1 .0)) × (now (s .1 .1 .0) ≡ now (s' .1 .1 .0)) × (now (s .1 .1 .1 .0) ≡ now (s' .1 .1 .1 .0))
+keep-one κs a r r' s s' p q = (one-answer (p .0) (q .0), one-answer (p .1 .0) (q .1 .0), one-answer (p .1 .1 .0) (q .1 .1 .0), one-answer (p .1 .1 .1) (q .1 .1 .1))
+
+-- where what is left is told by the answer, the answers are equal first
 pub read-one : (κs : _) (a : _) (r r' : _) (s s' : _) → read.Learnt κs a r s → read.Learnt κs a r' s' → (r ≡ r') × (now (s .1 .1 .0) ≡ now (s' .1 .1 .0))
-read-one κs a r r' s s' p q = (one-answer (p .0) (q .0), one-answer (p .1) (q .1))
+read-one κs a r r' s s' p q = let same = one-answer (p .0) (q .0) in (same, one-answer (rw same at (p .1)) (q .1))
 
 pub write-one : (κs : _) (a : _) (r r' : _) (s s' : _) → write.Learnt κs a r s → write.Learnt κs a r' s' → (r ≡ r') × (now (s .1 .1 .0) ≡ now (s' .1 .1 .0))
-write-one κs a r r' s s' p q = (one-answer (p .0) (q .0), one-answer (p .1) (q .1))
+write-one κs a r r' s s' p q = let same = one-answer (p .0) (q .0) in (same, one-answer (rw same at (p .1)) (q .1))
 
 pub list-one : (κs : _) (a : _) (r r' : _) (s s' : _) → list.Learnt κs a r s → list.Learnt κs a r' s' → (r ≡ r') × (now (s .1 .0) ≡ now (s' .1 .0))
 list-one κs a r r' s s' p q = (one-answer (p .0) (q .0), one-answer (p .1) (q .1))
@@ -236,46 +261,37 @@ list-one κs a r r' s s' p q = (one-answer (p .0) (q .0), one-answer (p .1) (q .
 pub emit-one : (κs : _) (a : _) (r r' : _) (s s' : _) → emit.Learnt κs a r s → emit.Learnt κs a r' s' → now (s .1 .0) ≡ now (s' .1 .0)
 emit-one κs a r r' s s' p q = one-answer p q
 
-pub copy-one : (κs : _) (a : _) (r r' : _) (s s' : _) → copy.Learnt κs a r s → copy.Learnt κs a r' s' → now (s .1 .0) ≡ now (s' .1 .0)
-copy-one κs a r r' s s' p q = one-answer p q
-
-pub take-target-one : (κs : _) (a : _) (r r' : _) (s s' : _) → take-target.Learnt κs a r s → take-target.Learnt κs a r' s'
-    → (r ≡ r') × (now (s .1 .1 .1 .1 .0) ≡ now (s' .1 .1 .1 .1 .0))
+pub take-target-one : (κs : _) (a : _) (r r' : _) (s s' : _) → take-target.Learnt κs a r s → take-target.Learnt κs a r' s' → (r ≡ r') × (now (s .1 .1 .1 .1 .1 .1 .1 .0) ≡ now (s' .1 .1 .1 .1 .1 .1 .1 .0))
 take-target-one κs a r r' s s' p q =
-    let spans = now (a .1 .1 .1 .0) in
-    let g = held spans [] [] in
-    let granted = held-1 spans [] [] in
-    (one-answer (p .0 g granted) (q .0 g granted), one-answer (p .1 g granted) (q .1 g granted))
+    let k = part-some 1 (now (a .1 .1 .1 .1 .0)) (now (a .1 .1 .1 .1 .1 .0)) (a .1 .1 .1 .1 .1 .1 .0) in
+    (one-answer (p .0 (k .0) (k .1)) (q .0 (k .0) (k .1)), one-answer (p .1 (k .0) (k .1)) (q .1 (k .0) (k .1)))
 
-pub take-stage-one : (κs : _) (a : _) (r r' : _) (s s' : _) → take-stage.Learnt κs a r s → take-stage.Learnt κs a r' s'
-    → (r ≡ r') × (now (s .1 .1 .1 .0) ≡ now (s' .1 .1 .1 .0))
+pub take-stage-one : (κs : _) (a : _) (r r' : _) (s s' : _) → take-stage.Learnt κs a r s → take-stage.Learnt κs a r' s' → (r ≡ r') × (now (s .1 .1 .1 .1 .0) ≡ now (s' .1 .1 .1 .1 .0))
 take-stage-one κs a r r' s s' p q = (one-answer (p .0 ungranted) (q .0 ungranted), one-answer (p .1 ungranted) (q .1 ungranted))
 
-pub take-sample-one : (κs : _) (a : _) (r r' : _) (s s' : _) → take-sample.Learnt κs a r s → take-sample.Learnt κs a r' s'
-    → (r ≡ r') × (now (s .1 .1 .1 .0) ≡ now (s' .1 .1 .1 .0))
+pub take-sample-one : (κs : _) (a : _) (r r' : _) (s s' : _) → take-sample.Learnt κs a r s → take-sample.Learnt κs a r' s' → (r ≡ r') × (now (s .1 .1 .1 .1 .0) ≡ now (s' .1 .1 .1 .1 .0))
 take-sample-one κs a r r' s s' p q = (one-answer (p .0 ungranted) (q .0 ungranted), one-answer (p .1 ungranted) (q .1 ungranted))
 
--- the cell that its callers must hand it is one of a video register, and has an offset
-pub take-run-one : (κs : _) (a : _) (r r' : _) (s s' : _) → take-run.Asked κs a → take-run.Learnt κs a r s → take-run.Learnt κs a r' s'
-    → (r ≡ r') × (now (s .1 .1 .1 .1 .1 .0) ≡ now (s' .1 .1 .1 .1 .1 .0))
-take-run-one κs a r r' s s' asked p q =
-    let cell = a .1 .1 .0 in
-    let firsts = now (a .1 .1 .1 .0) in
-    let seconds = now (a .1 .1 .1 .1 .0) in
-    let g = held [] firsts seconds in
-    let o = offsetOf cell in
-    let first = held-2 [] firsts seconds in
-    let second = held-3 [] firsts seconds in
-    let named = named-video (cell .0) (asked .1 .0) (asked .1 .1 .0) in
-    (one-answer (p .0 g o first second named) (q .0 g o first second named), one-answer (p .1 g o first second named) (q .1 g o first second named))
+pub take-overlay-one : (κs : _) (a : _) (r r' : _) (s s' : _) → take-overlay.Learnt κs a r s → take-overlay.Learnt κs a r' s' → (r ≡ r') × (now (s .1 .1 .1 .1 .0) ≡ now (s' .1 .1 .1 .1 .0))
+take-overlay-one κs a r r' s s' p q = (one-answer (p .0 ungranted) (q .0 ungranted), one-answer (p .1 ungranted) (q .1 ungranted))
 
-pub read-packets-one : (κs : _) (a : _) (r r' : _) (s s' : _) → read-packets.Learnt κs a r s → read-packets.Learnt κs a r' s'
-    → (r ≡ r') × (now (s .1 .1 .1 .1 .1 .0) ≡ now (s' .1 .1 .1 .1 .1 .0))
-read-packets-one κs a r r' s s' p q = (one-answer (p .0) (q .0), one-answer (p .1) (q .1))
+-- the cell that its callers must hand it is a scaler's first
+pub take-scaler-one : (κs : _) (a : _) (r r' : _) (s s' : _) → take-scaler.Asked κs a → take-scaler.Learnt κs a r s → take-scaler.Learnt κs a r' s'
+    → (r ≡ r') × (now (s .1 .1 .1 .1 .1 .1 .1 .1 .0) ≡ now (s' .1 .1 .1 .1 .1 .1 .1 .1 .0))
+take-scaler-one κs a r r' s s' asked p q =
+    let sc = asked .1 .1 .1 .0 in
+    let k = part-some (sc .0) (now (a .1 .1 .1 .1 .1 .0)) (now (a .1 .1 .1 .1 .1 .1 .0)) (a .1 .1 .1 .1 .1 .1 .1 .0) in
+    (one-answer (p .0 (k .0) (sc .0) (sc .1) (k .1)) (q .0 (k .0) (sc .0) (sc .1) (k .1)), one-answer (p .1 (k .0) (sc .0) (sc .1) (k .1)) (q .1 (k .0) (sc .0) (sc .1) (k .1)))
 
-pub read-windows-one : (κs : _) (a : _) (r r' : _) (s s' : _) → read-windows.Learnt κs a r s → read-windows.Learnt κs a r' s'
-    → (r ≡ r') × (now (s .1 .1 .0) ≡ now (s' .1 .1 .0))
-read-windows-one κs a r r' s s' p q = let same = one-answer (p .0) (q .0) in (same, one-answer (rw same at (p .1)) (q .1))
+pub read-packet-one : (κs : _) (a : _) (r r' : _) (s s' : _) → read-packet.Learnt κs a r s → read-packet.Learnt κs a r' s' → (r ≡ r') × (now (s .1 .1 .1 .1 .1 .0) ≡ now (s' .1 .1 .1 .1 .1 .0))
+read-packet-one κs a r r' s s' p q =
+    let k = kept-some (now (a .1 .1 .0)) (now (a .1 .1 .1 .0)) (now (a .1 .1 .1 .1 .0)) in
+    (one-answer (p .0 (k .0) (k .1)) (q .0 (k .0) (k .1)), one-answer (p .1 .0 (k .0) (k .1)) (q .1 .0 (k .0) (k .1)))
+
+pub read-packets-one : (κs : _) (a : _) (r r' : _) (s s' : _) → read-packets.Learnt κs a r s → read-packets.Learnt κs a r' s' → (r ≡ r') × (now (s .1 .1 .1 .1 .0) ≡ now (s' .1 .1 .1 .1 .0))
+read-packets-one κs a r r' s s' p q =
+    let k = kept-some (now (a .1 .0)) (now (a .1 .1 .0)) (now (a .1 .1 .1 .0)) in
+    (one-answer (p .0 (k .0) (k .1)) (q .0 (k .0) (k .1)), one-answer (p .1 (k .0) (k .1)) (q .1 (k .0) (k .1)))
 
 pub irangelda-read-one : (κs : _) (a : _) (r r' : _) (s s' : _) → irangelda-read.Learnt κs a r s → irangelda-read.Learnt κs a r' s'
     → (r ≡ r') × (now (s .1 .1 .0) ≡ now (s' .1 .1 .0))

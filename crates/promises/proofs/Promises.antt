@@ -1,36 +1,39 @@
 -- What the reader, the writer and the lister promise, of whatever their contracts allow: an answer a, and what is left in the lent buffer.
--- The calls of the driver answer a number n instead, and their buffers are bytes.
+-- All buffers are bytes. The calls of the driver answer a number n instead.
 -- Assumes nothing.
-use mathlib.Core.Path.{_≡_, sym, _∙_}
+use mathlib.Core.Path.{_≡_, sym, ap, _∙_}
 use mathlib.Core.Logic.{_↔_, _≢_, _⊎_, inl, inr}
 use mathlib.Core.List.{List, _∷_, _++_}
-use Prim.Native.Nat.{ℕ, _+_, _%_, _≤_, _<_}
+use Prim.Native.Nat.{ℕ, _+_, _/_, _%_, _≤_, _<_}
 use lib.Dec.{T}
 use lib.ListN.{length, drop, getD}
 use denote.Ref.{now}
 use Rattle.laws.specs.Lists.{All}
-use Rattle.laws.proofs.Tests.{false-of}
+use Rattle.laws.proofs.Tests.{true-of, false-of}
 use Rattle.meaning.specs.declared.Answer.{Answer}
-use Rattle.meaning.specs.Words.{Word, wordsOf}
+use Rattle.meaning.specs.Words.{Word, wordsOf, bytesOf}
 use Rattle.meaning.specs.Registers.{cells, cell}
 use Rattle.meaning.specs.Grants.{grantsOf, grantsFine, termsOf, Terms}
 use Rattle.meaning.specs.Batch.{Cut, Longest, Holdable}
 use Rattle.meaning.specs.State.{valueAt, markAt, wellFormed, empty, Write, applyAll, allWrites, Reached}
 use Rattle.meaning.specs.Answers.{answer}
-use Rattle.meaning.specs.Writer.{written}
+use Rattle.meaning.specs.Reader.{readLeaves}
+use Rattle.meaning.specs.Writer.{written, writeAnswer}
 use Rattle.meaning.specs.Lister.{listing}
 use Rattle.meaning.specs.Reasons.{CellFine, Reads, Writes, Lists}
 use Rattle.meaning.specs.Memory.{Inside, Apart, Safe, Stores}
-use Rattle.meaning.specs.Calls.{readCall, writeCall, listCall}
+use Rattle.meaning.specs.Calls.{readCall, readCallLeaves, writeCall, writeCallLeaves, listCall}
+use Rattle.meaning.proofs.Bytes.{words-bytes, length-words, settle-done, settle-refused}
 use Rattle.meaning.proofs.Calls.{Byte}
 use Rattle.meaning.proofs.Promises as theory
 use Rattle.reader.proofs.read.Reads as read
 use Rattle.writer.proofs.write.Reads as write
 use Rattle.lister.proofs.list.Reads as list
-use Rattle.irangelda.proofs.Buffers.{read-13, write-13, list-13}
+use Rattle.irangelda.proofs.Buffers.{whole-state, read-13, write-13, list-13}
 use Rattle.irangelda.proofs.irangelda_read.Reads as irangelda-read
 use Rattle.irangelda.proofs.irangelda_write.Reads as irangelda-write
 use Rattle.irangelda.proofs.irangelda_list.Reads as irangelda-list
+use Rattle.promises.proofs.Bytes.{bytes-small, read-leaves}
 use Rattle.promises.specs.Contracts.{Reading, Writing, Listing, ReadingBytes, WritingBytes, ListingBytes, WordBuffers, ListerBuffers, Tells}
 
 -- ==== The contracts
@@ -61,59 +64,74 @@ lists-bytes κs a r s p = p
 
 -- ==== Demand 3
 
+-- `batch`, `grants` and `st` are the bytes that were lent, of any length, and ws, gs and sw the words that they are
 module _ (batch grants st : List ℕ) (a : Answer) (left : List ℕ) (read : Reading batch grants st a left) where
+  abbrev ws : List ℕ
+  ws = wordsOf batch
+
+  abbrev gs : List ℕ
+  gs = wordsOf grants
+
+  abbrev sw : List ℕ
+  sw = wordsOf st
+
   -- "a batch is accepted exactly when it is a row of whole permitted packets"; the place is then its length
-  pub accepted-exactly : T (wellFormed st) → T (grantsFine grants) → (a ≡ answer 0 (length batch)) ↔ Cut (termsOf grants) batch
-  accepted-exactly s l = let e = theory.accepted-exactly batch grants st s l in (λ x. e .0 (sym (read .0) ∙ x), λ c. read .0 ∙ e .1 c)
+  pub accepted-exactly : T (wellFormed sw) → T (grantsFine gs) → (a ≡ answer 0 (length ws)) ↔ Cut (termsOf gs) ws
+  accepted-exactly s l = let e = theory.accepted-exactly ws gs sw s l in (λ x. e .0 (sym (read .0) ∙ x), λ c. read .0 ∙ e .1 c)
 
   -- "the place of a refusal is the length of the longest beginning of the batch with which some permitted batch starts"
-  pub place-is-longest-beginning : T (wellFormed st) → T (grantsFine grants) → Holdable (termsOf grants) 2 → Holdable (termsOf grants) 3
-      → a .reason ≢ 0 → Longest (termsOf grants) batch (a .place)
-  place-is-longest-beginning s l h2 h3 n = rw (read .0) (theory.place-is-longest-beginning batch grants st s l h2 h3 (rw (read .0) at n))
+  pub place-is-longest-beginning : T (wellFormed sw) → T (grantsFine gs) → Holdable (termsOf gs) 2 → Holdable (termsOf gs) 3
+      → a .reason ≢ 0 → Longest (termsOf gs) ws (a .place)
+  place-is-longest-beginning s l h2 h3 n = rw (read .0) (theory.place-is-longest-beginning ws gs sw s l h2 h3 (rw (read .0) at n))
 
   -- "A refusal gives the reason and place that document 01 fixes": the answer is r at p exactly if the table says so
-  pub each-reason-exactly : (r p : ℕ) → (a ≡ answer r p) ↔ Reads batch grants st r p
-  each-reason-exactly r p = rw (read .0) (theory.each-reason-exactly batch grants st 0 .reader r p)
+  pub each-reason-exactly : (r p : ℕ) → (a ≡ answer r p) ↔ Reads ws gs sw r p
+  each-reason-exactly r p = rw (read .0) (theory.each-reason-exactly ws gs sw 0 .reader r p)
 
-  -- ==== Demand 2
-
-  -- "An accepted batch leaves the register state that its writes, taken one after another .. produce"
-  pub state-is-its-writes : a .reason ≡ 0 → (c : Cut (termsOf grants) batch) × (left ≡ applyAll st (allWrites (c .packets)))
-  state-is-its-writes e = rw (read .1) (theory.state-is-its-writes batch grants st (rw (read .0) at e))
-
-  -- "the last write holds"
-  pub last-write-holds : a .reason ≡ 0 → (c : Cut (termsOf grants) batch) (before : List Write) (w : Write) (later : List Write)
-      → allWrites (c .packets) ≡ before ++ w ∷ later → All (λ x. x .cell .0 ≢ w .cell .0) later
-      → (valueAt left (w .cell) ≡ w .value) × (markAt left (w .cell) ≡ 1)
-  last-write-holds e = rw (read .1) (theory.last-write-holds batch grants st (rw (read .0) at e))
-
-  -- and what no write names is as it was
-  pub else-as-before : a .reason ≡ 0 → (c : Cut (termsOf grants) batch) (i : ℕ)
-      → All (λ w. (i ≢ w .cell .0) × (i ≢ cells + w .cell .0)) (allWrites (c .packets)) → getD left i 0 ≡ getD st i 0
-  else-as-before e = rw (read .1) (theory.else-as-before batch grants st (rw (read .0) at e))
-
-  -- a state that is well-formed stays so, accepted or refused
-  pub stays-well-formed : T (wellFormed st) → T (wellFormed left)
-  stays-well-formed s = rw (read .1) (theory.stays-well-formed batch grants st s)
-
-  -- "state .. stay as they were"
+  -- "state .. stay as they were": not one byte is changed
   pub refused-unread : a .reason ≢ 0 → left ≡ st
-  refused-unread n = read .1 ∙ theory.refusal-changes-nothing batch grants st .read (rw (read .0) at n)
+  refused-unread n = read .1 ∙ settle-refused a _ st n
+
+  -- the reader's reason and place do not depend on what the registers hold
+  pub answer-ignores-state : (other : List ℕ) (b : Answer) (after : List ℕ) → Reading batch grants other b after → T (wellFormed sw) → T (wellFormed (wordsOf other)) → a ≡ b
+  answer-ignores-state other b after also s o = read .0 ∙ theory.answer-ignores-state ws gs sw (wordsOf other) s o ∙ sym (also .0)
 
   -- ==== The fitter's question: "Can one scribble on the other?"
 
   -- every address that an accepted batch writes lies, with its reach, inside one grant of its role
-  pub nothing-outside-a-grant : a .reason ≡ 0 → (c : Cut (termsOf grants) batch) × All (Stores (Inside (grantsOf grants))) (allWrites (c .packets))
-  nothing-outside-a-grant e = theory.nothing-outside-a-grant batch grants st (rw (read .0) at e)
+  pub nothing-outside-a-grant : a .reason ≡ 0 → (c : Cut (termsOf gs) ws) × All (Stores (Inside (grantsOf gs))) (allWrites (c .packets))
+  nothing-outside-a-grant e = theory.nothing-outside-a-grant ws gs sw (rw (read .0) at e)
 
   -- and touches nothing that is granted to another program, where no memory is granted to both
-  pub two-programs-apart : (theirs : List ℕ) → Apart (grantsOf grants) (grantsOf theirs) → a .reason ≡ 0
-      → (c : Cut (termsOf grants) batch) × All (Stores (Safe (grantsOf grants) (grantsOf theirs))) (allWrites (c .packets))
-  two-programs-apart theirs apart e = theory.two-programs-apart batch grants theirs st apart (rw (read .0) at e)
+  pub two-programs-apart : (theirs : List ℕ) → Apart (grantsOf gs) (grantsOf theirs) → a .reason ≡ 0
+      → (c : Cut (termsOf gs) ws) × All (Stores (Safe (grantsOf gs) (grantsOf theirs))) (allWrites (c .packets))
+  two-programs-apart theirs apart e = theory.two-programs-apart ws gs theirs sw apart (rw (read .0) at e)
 
-  -- the reader's reason and place do not depend on what the registers hold
-  pub answer-ignores-state : (other : List ℕ) (b : Answer) (after : List ℕ) → Reading batch grants other b after → T (wellFormed st) → T (wellFormed other) → a ≡ b
-  answer-ignores-state other b after also s o = read .0 ∙ theory.answer-ignores-state batch grants st other s o ∙ sym (also .0)
+  -- ==== Demand 2: what the bytes of the state then are, as words
+
+  module _ (b : All Byte batch) (s : All Byte st) where
+    -- as the definitions leave it, accepted or refused
+    pub left-as-words : wordsOf left ≡ readLeaves ws gs sw
+    left-as-words = rw (read .1, read .0) (read-leaves batch grants st b s)
+
+    -- "An accepted batch leaves the register state that its writes, taken one after another .. produce"
+    pub state-is-its-writes : a .reason ≡ 0 → (c : Cut (termsOf gs) ws) × (wordsOf left ≡ applyAll sw (allWrites (c .packets)))
+    state-is-its-writes e = rw left-as-words (theory.state-is-its-writes ws gs sw (rw (read .0) at e))
+
+    -- "the last write holds"
+    pub last-write-holds : a .reason ≡ 0 → (c : Cut (termsOf gs) ws) (before : List Write) (w : Write) (later : List Write)
+        → allWrites (c .packets) ≡ before ++ w ∷ later → All (λ x. x .cell .0 ≢ w .cell .0) later
+        → (valueAt (wordsOf left) (w .cell) ≡ w .value) × (markAt (wordsOf left) (w .cell) ≡ 1)
+    last-write-holds e = rw left-as-words (theory.last-write-holds ws gs sw (rw (read .0) at e))
+
+    -- and what no write names is as it was
+    pub else-as-before : a .reason ≡ 0 → (c : Cut (termsOf gs) ws) (i : ℕ)
+        → All (λ w. (i ≢ w .cell .0) × (i ≢ cells + w .cell .0)) (allWrites (c .packets)) → getD (wordsOf left) i 0 ≡ getD sw i 0
+    else-as-before e = rw left-as-words (theory.else-as-before ws gs sw (rw (read .0) at e))
+
+    -- a state that is well-formed stays so, accepted or refused
+    pub stays-well-formed : T (wellFormed sw) → T (wellFormed (wordsOf left))
+    stays-well-formed f = rw left-as-words (theory.stays-well-formed ws gs sw f)
 
 -- "and it can be cut into them in one way only"
 pub one-cut : (g : Terms) (batch : List ℕ) (c d : Cut g batch) → c .packets ≡ d .packets
@@ -122,36 +140,58 @@ one-cut = theory.one-cut
 -- ==== The writer
 
 module _ (st grants out : List ℕ) (a : Answer) (left : List ℕ) (write : Writing st grants out a left) where
+  -- the words of the state, which a batch is written from, and of the grants
+  abbrev from : List ℕ
+  from = wordsOf st
+
+  abbrev under : List ℕ
+  under = wordsOf grants
+
+  -- its room is counted in whole words
+  answered : a ≡ writeAnswer from under (length (wordsOf out))
+  answered = write .0 ∙ ap (writeAnswer from under) (sym (length-words out))
+
   -- "Given room, the writer turns each state that some batch reaches from empty into a batch doing so, under the same grants":
-  -- the words are `written st`, what is past them stays, and whatever the reader answers on them from the empty state is 0, and the state st
-  pub writer-reaches : T (grantsFine grants) → Reached (termsOf grants) st → length (written st) ≤ length out
-      → (a ≡ answer 0 (length (written st))) × (left ≡ written st ++ drop (length (written st)) out) × All Word (written st)
-      × ((b : Answer) (back : List ℕ) → Reading (written st) grants empty b back → (b ≡ answer 0 (length (written st))) × (back ≡ st))
+  -- the bytes of `written from`, words of 32 bits, what is past them stays, and whatever the reader answers on them, from bytes that are the
+  -- empty state, is 0, and leaves the state
+  pub writer-reaches : T (grantsFine under) → Reached (termsOf under) from → length (written from) ≤ length out / 4
+      → (a ≡ answer 0 (length (written from))) × (left ≡ bytesOf (written from) ++ drop (length (bytesOf (written from))) out) × All Word (written from)
+      × ((blank : List ℕ) (b : Answer) (back : List ℕ) → All Byte blank → wordsOf blank ≡ empty → Reading (bytesOf (written from)) grants blank b back
+      → (b ≡ answer 0 (length (written from))) × (wordsOf back ≡ from))
   writer-reaches l r room =
-      let t = theory.writer-reaches st grants out l r room in
-      (write .0 ∙ t .answered, write .1 ∙ t .left, t .words, λ b back read. (read .0 ∙ t .accepted, read .1 ∙ t .back))
+      let t = theory.writer-reaches from under (wordsOf out) l r (rw (length-words out) room) in
+      let done : a ≡ answer 0 (length (written from)) = answered ∙ t .answered in
+      let same : wordsOf (bytesOf (written from)) ≡ written from = words-bytes (written from) (t .words) in (
+        done,
+        write .1 ∙ settle-done a _ out (ap (λ (x : Answer). x .reason) done),
+        t .words,
+        λ blank b back x e read. (
+          read .0 ∙ rw (same, e) (t .accepted),
+          left-as-words (bytesOf (written from)) grants blank b back read (bytes-small (written from)) x ∙ rw (same, e) (t .back),
+        ),
+      )
 
   -- "and refuses all others": with 1, or with 12 at the lowest marked cell that holds what it may not
-  pub writer-refuses-the-rest : T (grantsFine grants) → ¬ Reached (termsOf grants) st
-      → ((¬ T (wellFormed st)) × (a ≡ answer 1 0))
-      ⊎ ((c : ℕ) × (a ≡ answer 12 c) × (c < cells) × (¬ CellFine (termsOf grants) st (cell c)) × ((d : ℕ) → d < c → CellFine (termsOf grants) st (cell d)))
+  pub writer-refuses-the-rest : T (grantsFine under) → ¬ Reached (termsOf under) from
+      → ((¬ T (wellFormed from)) × (a ≡ answer 1 0))
+      ⊎ ((c : ℕ) × (a ≡ answer 12 c) × (c < cells) × (¬ CellFine (termsOf under) from (cell c)) × ((d : ℕ) → d < c → CellFine (termsOf under) from (cell d)))
   writer-refuses-the-rest l n =
-      elim (theory.writer-refuses-the-rest st grants (length out) l n) [
+      elim (theory.writer-refuses-the-rest from under (length out / 4) l n) [
         | inl x ↦ inl (x .0, write .0 ∙ x .1)
         | inr x ↦ inr (x .0, write .0 ∙ x .1 .answered, x .1 .low, x .1 .bad, x .1 .lowest)
       ]
 
   -- "11: output shorter than needed", of a state that is reached: exactly if the room is less
-  pub writer-needs-its-room : T (grantsFine grants) → Reached (termsOf grants) st → (a ≡ answer 11 0) ↔ (length out < length (written st))
-  writer-needs-its-room l r = rw (write .0) (theory.writer-needs-its-room st grants (length out) l r)
+  pub writer-needs-its-room : T (grantsFine under) → Reached (termsOf under) from → (a ≡ answer 11 0) ↔ (length out / 4 < length (written from))
+  writer-needs-its-room l r = rw (write .0) (theory.writer-needs-its-room from under (length out / 4) l r)
 
   -- "Each is given exactly then": of the writer
-  pub each-writer-reason-exactly : (r p : ℕ) → (a ≡ answer r p) ↔ Writes st grants (length out) r p
-  each-writer-reason-exactly r p = rw (write .0) (theory.each-reason-exactly st grants out (length out) .writer r p)
+  pub each-writer-reason-exactly : (r p : ℕ) → (a ≡ answer r p) ↔ Writes from under (length out / 4) r p
+  each-writer-reason-exactly r p = rw (write .0) (theory.each-reason-exactly from under out (length out / 4) .writer r p)
 
-  -- "output buffers stay as they were"
+  -- "output buffers stay as they were": not one byte is changed
   pub refused-unwritten : a .reason ≢ 0 → left ≡ out
-  refused-unwritten n = write .1 ∙ theory.refusal-changes-nothing st grants out .write (rw (write .0) at n)
+  refused-unwritten n = write .1 ∙ settle-refused a _ out n
 
 -- "It needs at most 184 words"
 pub writer-needs-at-most-184 : (st : List ℕ) → length (written st) ≤ 184
@@ -160,23 +200,27 @@ writer-needs-at-most-184 = theory.writer-needs-at-most-184
 -- ==== The lister
 
 module _ (st out : List ℕ) (a : Answer) (left : List ℕ) (list : Listing st out a left) where
+  -- the words of the state
+  abbrev shown : List ℕ
+  shown = wordsOf st
+
   -- the exact bytes; "bytes past its end stay as they were"
-  pub listing-is-exact : T (wellFormed st) → length (listing st) ≤ length out → (a ≡ answer 0 (length (listing st))) × (left ≡ listing st ++ drop (length (listing st)) out)
-  listing-is-exact s room = let t = theory.listing-is-exact st out s room in (list .0 ∙ t .answered, list .1 ∙ t .left)
+  pub listing-is-exact : T (wellFormed shown) → length (listing shown) ≤ length out → (a ≡ answer 0 (length (listing shown))) × (left ≡ listing shown ++ drop (length (listing shown)) out)
+  listing-is-exact s room = let t = theory.listing-is-exact shown out s room in (list .0 ∙ t .answered, list .1 ∙ t .left)
 
   -- "Each is given exactly then": of the lister
-  pub each-lister-reason-exactly : (r p : ℕ) → (a ≡ answer r p) ↔ Lists st (length out) r p
-  each-lister-reason-exactly r p = rw (list .0) (theory.each-reason-exactly st out out (length out) .lister r p)
+  pub each-lister-reason-exactly : (r p : ℕ) → (a ≡ answer r p) ↔ Lists shown (length out) r p
+  each-lister-reason-exactly r p = rw (list .0) (theory.each-reason-exactly shown out out (length out) .lister r p)
 
   -- "output buffers stay as they were"
   pub refused-unlisted : a .reason ≢ 0 → left ≡ out
-  refused-unlisted n = list .1 ∙ theory.refusal-changes-nothing st st out .list (rw (list .0) at n)
+  refused-unlisted n = list .1 ∙ theory.refusal-changes-nothing shown shown out .list (rw (list .0) at n)
 
 -- "at most 2,568 bytes"
 pub listing-at-most-2568 : (st : List ℕ) → length (listing st) ≤ 2568
 listing-at-most-2568 = theory.listing-at-most-2568
 
--- ==== The calls of the driver, on bytes
+-- ==== The calls of the driver
 
 module _ (batch grants st : List ℕ) (n : ℕ) (left : List ℕ) (call : ReadingBytes batch grants st n left) where
   -- "the answer is one number, place × 256 + reason": the number tells both
@@ -194,13 +238,13 @@ module _ (batch grants st : List ℕ) (n : ℕ) (left : List ℕ) (call : Readin
   pub read-refusal-changes-nothing : n % 256 ≢ 0 → left ≡ st
   read-refusal-changes-nothing z = call .1 ∙ theory.refusal-changes-nothing batch grants st .read-call (rw (read-number-tells-both .0) at z)
 
-  -- "Demands 2 and 3 speak of calls that 13 lets through": the number tells an answer of the reader on the words that the bytes are, and
-  -- what is left is, as words, what it leaves with that answer
-  pub read-call-is-the-words : WordBuffers batch grants st → All Byte batch → All Byte st
-      → (a : Answer) × Tells n a × Reading (wordsOf batch) (wordsOf grants) (wordsOf st) a (wordsOf left)
-  read-call-is-the-words fine b s =
-      let words = theory.calls-are-the-words batch grants st in
-      (readCall batch grants st, read-number-tells-both, (words .read fine, rw (call .1) (words .read-left fine b s)))
+  -- "Demands 2 and 3 speak of calls that 13 lets through": the number tells an answer that the reader's contract allows on the same bytes,
+  -- with what is left, so that every promise of the reader is one of this call
+  pub read-call-is-the-reader : WordBuffers batch grants st → (a : Answer) × Tells n a × Reading batch grants st a left
+  unfolding readCallLeaves
+  read-call-is-the-reader fine =
+      let words = theory.calls-are-the-words batch grants st .read fine in
+      (readCall batch grants st, read-number-tells-both, (words, call .1 ∙ rw (whole-state batch grants st (true-of _ fine))))
 
 module _ (st grants out : List ℕ) (n : ℕ) (left : List ℕ) (call : WritingBytes st grants out n left) where
   -- "the answer is one number, place × 256 + reason": the number tells both
@@ -218,12 +262,12 @@ module _ (st grants out : List ℕ) (n : ℕ) (left : List ℕ) (call : WritingB
   pub write-refusal-changes-nothing : n % 256 ≢ 0 → left ≡ out
   write-refusal-changes-nothing z = call .1 ∙ theory.refusal-changes-nothing st grants out .write-call (rw (write-number-tells-both .0) at z)
 
-  -- what 13 lets through is the writer on the words that the bytes are
-  pub write-call-is-the-words : WordBuffers st grants out
-      → (a : Answer) × Tells n a × Writing (wordsOf st) (wordsOf grants) (wordsOf out) a (wordsOf left)
-  write-call-is-the-words fine =
-      let words = theory.calls-are-the-words st grants out in
-      (writeCall st grants out, write-number-tells-both, (words .write fine, rw (call .1) (words .write-left fine)))
+  -- what 13 lets through is the writer on the same bytes
+  pub write-call-is-the-writer : WordBuffers st grants out → (a : Answer) × Tells n a × Writing st grants out a left
+  unfolding writeCallLeaves
+  write-call-is-the-writer fine =
+      let words = theory.calls-are-the-words st grants out .write fine in
+      (writeCall st grants out, write-number-tells-both, (words ∙ ap (writeAnswer (wordsOf st) (wordsOf grants)) (length-words out), call .1))
 
 module _ (st out : List ℕ) (n : ℕ) (left : List ℕ) (call : ListingBytes st out n left) where
   -- "the answer is one number, place × 256 + reason": the number tells both
@@ -241,8 +285,8 @@ module _ (st out : List ℕ) (n : ℕ) (left : List ℕ) (call : ListingBytes st
   pub list-refusal-changes-nothing : n % 256 ≢ 0 → left ≡ out
   list-refusal-changes-nothing z = call .1 ∙ theory.refusal-changes-nothing st st out .list-call (rw (list-number-tells-both .0) at z)
 
-  -- what 13 lets through is the lister on the words that the state's bytes are
-  pub list-call-is-the-words : ListerBuffers st out → (a : Answer) × Tells n a × Listing (wordsOf st) out a left
-  list-call-is-the-words fine =
+  -- what 13 lets through is the lister on the same bytes
+  pub list-call-is-the-lister : ListerBuffers st out → (a : Answer) × Tells n a × Listing st out a left
+  list-call-is-the-lister fine =
       let words = theory.calls-are-the-words st st out in
       (listCall st out, list-number-tells-both, (words .list fine, call .1 ∙ words .list-left fine))

@@ -1,5 +1,5 @@
--- What the contracts of reader, writer and lister allow, on words and on bytes: an answer, and what is left in the buffer that is lent
--- to be changed.
+-- What the contracts of reader, writer and lister allow, and those of the calls of the driver: an answer, and what is left in the buffer
+-- that is lent to be changed.
 -- Assumes nothing.
 use mathlib.Core.Path.{_≡_}
 use mathlib.Core.Bool.{_&&_}
@@ -7,27 +7,32 @@ use mathlib.Core.List.{List, [], _∷_}
 use Prim.Native.Nat.{ℕ, _/_, _%_}
 use lib.Dec.{T}
 use lib.ListN.{length}
-use Rattle.laws.specs.Lists.{every}
+use Rattle.laws.specs.Lists.{every, over}
 use Rattle.meaning.specs.declared.Answer.{Answer}
-use Rattle.meaning.specs.Answers.{numberOf}
+use Rattle.meaning.specs.Words.{wordsOf, bytesOf}
+use Rattle.meaning.specs.Answers.{numberOf, settle}
 use Rattle.meaning.specs.Reader.{readAnswer, readLeaves}
-use Rattle.meaning.specs.Writer.{writeAnswer, writeLeaves}
+use Rattle.meaning.specs.Writer.{written, writeAnswer}
 use Rattle.meaning.specs.Lister.{listAnswer, listLeaves}
 use Rattle.meaning.specs.Calls.{bufferFine, wordBufferFine, readCall, readCallLeaves, writeCall, writeCallLeaves, listCall, listCallLeaves}
 
--- `reader::read` on a batch, a grant list and a state answers a and leaves the state `left`
+-- `reader::read` on the bytes of a batch, of a grant list and of a state answers a and leaves the bytes `left` of the state. The words
+-- over the front of the state's bytes are those that the definitions leave; bytes past the last whole word stay
 abbrev pub Reading : List ℕ → List ℕ → List ℕ → Answer → List ℕ → Type 0
-Reading batch grants st a left = (a ≡ readAnswer batch grants st) × (left ≡ readLeaves batch grants st)
+Reading batch grants st a left =
+    (a ≡ readAnswer (wordsOf batch) (wordsOf grants) (wordsOf st))
+    × (left ≡ settle a (over (bytesOf (readLeaves (wordsOf batch) (wordsOf grants) (wordsOf st))) st) st)
 
--- `writer::write` on a state, a grant list and an output answers a and leaves the output `left`
+-- `writer::write` on the bytes of a state, of a grant list and of an output answers a and leaves the bytes `left` of the output
 abbrev pub Writing : List ℕ → List ℕ → List ℕ → Answer → List ℕ → Type 0
-Writing st grants out a left = (a ≡ writeAnswer st grants (length out)) × (left ≡ writeLeaves st grants out)
+Writing st grants out a left =
+    (a ≡ writeAnswer (wordsOf st) (wordsOf grants) (length out / 4)) × (left ≡ settle a (over (bytesOf (written (wordsOf st))) out) out)
 
--- `lister::list` on a state and an output answers a and leaves the output `left`
+-- `lister::list` on the bytes of a state and an output answers a and leaves the output `left`
 abbrev pub Listing : List ℕ → List ℕ → Answer → List ℕ → Type 0
-Listing st out a left = (a ≡ listAnswer st (length out)) × (left ≡ listLeaves st out)
+Listing st out a left = (a ≡ listAnswer (wordsOf st) (length out)) × (left ≡ listLeaves (wordsOf st) out)
 
--- ---- the calls of the driver, on bytes
+-- ---- the calls of the driver
 
 -- `irangelda_read` on the bytes of a batch, of a grant list and of a state answers the number n and leaves the bytes `left` of the state
 abbrev pub ReadingBytes : List ℕ → List ℕ → List ℕ → ℕ → List ℕ → Type 0

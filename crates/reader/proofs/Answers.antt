@@ -1,42 +1,77 @@
--- The reader's answer and the state after it, by what its tests came to.
+-- The reader's answer and the bytes after it, by what its tests came to.
 -- Assumes nothing.
 use mathlib.Core.Path.{_≡_, refl, sym, ap, _∙_}
 use mathlib.Core.Bool.{true, false}
 use mathlib.Core.List.{List}
 use Prim.Native.Nat.{ℕ}
-use borrow.Author.Tests.{ne-eqb}
 use lib.Dec.{eqb}
 use lib.ListN.{length}
 use mir.Facts.{and-yes, eqb-yes}
+use borrow.Author.Tests.{ne-eqb}
+use Rattle.laws.specs.Lists.{over}
 use Rattle.laws.proofs.Tests.{holds-of}
+use Rattle.meaning.specs.declared.Kind.the-variants.{Setting}
 use Rattle.meaning.specs.declared.Answer.{Answer}
-use Rattle.meaning.specs.Grants.{grantsFine, termsOf}
+use Rattle.meaning.specs.Words.{wordsOf, bytesOf}
+use Rattle.meaning.specs.Grants.{Terms, termsOf, mostGrants, grantsFine}
 use Rattle.meaning.specs.State.{stateWords, wellFormed, applyAll}
 use Rattle.meaning.specs.Positions.{writesOf}
-use Rattle.meaning.specs.Answers.{badState, badGrants, answer}
+use Rattle.meaning.specs.Answers.{badState, badGrants, answer, settle}
 use Rattle.meaning.specs.Reader.{batchAnswer, readAnswer, readLeaves}
+use Rattle.grants.specs.Kept.{Bounded, Keeps, keptAfter}
+use Rattle.grants.proofs.Keeping.{keeps}
+use Rattle.bodies.specs.Passes.{Passed, answerOf}
+use Rattle.packets.specs.Packets.{packetsFrom}
+use Rattle.packets.proofs.Packets.{answered, wrote, same-size}
 
 -- a well-formed state is whole
 pub whole : (st : List ℕ) → wellFormed st ≡ true → length st ≡ stateWords
 unfolding wellFormed
 whole st e = eqb-yes (and-yes (eqb (length st) stateWords) _ (holds-of e) .0)
 
-module _ (batch grants st : List ℕ) where
-  pub state-refused : wellFormed st ≡ false → (answer badState 0 ≡ readAnswer batch grants st) × (st ≡ readLeaves batch grants st)
-  unfolding readAnswer readLeaves
+-- what was kept of a list that keeps its rules
+pub kept-list : (ws starts lasts : List ℕ) → length starts ≡ mostGrants → length lasts ≡ mostGrants → grantsFine ws ≡ true → {s l b : List ℕ}
+    → s ≡ keptAfter ws starts lasts .starts → l ≡ keptAfter ws starts lasts .lasts → b ≡ keptAfter ws starts lasts .bounds → Keeps (termsOf ws) s l b × Bounded b
+kept-list ws starts lasts ns nl f es el eb = rw (es, el, eb) (keeps ws starts lasts ns nl (holds-of f))
+
+-- ---- the answer and the bytes
+
+module _ (batch grants bytes : List ℕ) where
+  abbrev st : List ℕ
+  st = wordsOf bytes
+
+  abbrev answer-is : Answer → Type 0
+  answer-is a = a ≡ readAnswer (wordsOf batch) (wordsOf grants) st
+
+  abbrev leaves : Answer → List ℕ
+  leaves a = settle a (over (bytesOf (readLeaves (wordsOf batch) (wordsOf grants) st)) bytes) bytes
+
+  pub state-refused : wellFormed st ≡ false → answer-is (answer badState 0) × (bytes ≡ leaves (answer badState 0))
+  unfolding readAnswer
   state-refused e = rw e (refl, refl)
 
-  pub grants-refused : wellFormed st ≡ true → grantsFine grants ≡ false → (answer badGrants 0 ≡ readAnswer batch grants st) × (st ≡ readLeaves batch grants st)
-  unfolding readAnswer readLeaves
+  pub grants-refused : wellFormed st ≡ true → grantsFine (wordsOf grants) ≡ false → answer-is (answer badGrants 0) × (bytes ≡ leaves (answer badGrants 0))
+  unfolding readAnswer
   grants-refused e f = rw (e, f) (refl, refl)
 
-  module _ (e : wellFormed st ≡ true) (f : grantsFine grants ≡ true) {a : Answer} (h : a ≡ batchAnswer (termsOf grants) batch) where
-    pub batch-refused : (a .reason ≡ 0 → ⊥) → (a ≡ readAnswer batch grants st) × (st ≡ readLeaves batch grants st)
-    unfolding readAnswer readLeaves
-    batch-refused n = rw (e, f, sym h, ne-eqb (a .reason) 0 n) (refl, refl)
+  module _ (e : wellFormed st ≡ true) (f : grantsFine (wordsOf grants) ≡ true) {own : List ℕ} (loaded : own ≡ st) {a : Answer} {after : List ℕ}
+      (ea : a ≡ answerOf (packetsFrom (termsOf (wordsOf grants)) 0 Setting 0 (wordsOf batch) own))
+      (el : after ≡ packetsFrom (termsOf (wordsOf grants)) 0 Setting 0 (wordsOf batch) own .state) where
+    told : a ≡ batchAnswer (termsOf (wordsOf grants)) (wordsOf batch)
+    told = ea ∙ answered (termsOf (wordsOf grants)) (wordsOf batch) own
 
-    -- the state's copy is read on, and takes the state's place
-    pub batch-accepted : a .reason ≡ 0 → {own after left : List ℕ} → own ≡ st → after ≡ applyAll own (writesOf batch) → left ≡ after
-        → (a ≡ readAnswer batch grants st) × (left ≡ readLeaves batch grants st)
+    pub own-size : length after ≡ stateWords
+    own-size = ap length el ∙ same-size (termsOf (wordsOf grants)) 0 Setting 0 (wordsOf batch) own ∙ ap length loaded ∙ whole st e
+
+    pub batch-refused : (a .reason ≡ 0 → ⊥) → answer-is a × (bytes ≡ leaves a)
+    unfolding readAnswer
+    batch-refused n = (rw (e, f) told, rw (ne-eqb (a .reason) 0 n))
+
+    -- the state's copy was read on, and takes the state's place
+    pub batch-accepted : a .reason ≡ 0 → {left : List ℕ} → left ≡ over (bytesOf after) bytes → answer-is a × (left ≡ leaves a)
     unfolding readAnswer readLeaves
-    batch-accepted z copied read back = rw (e, f, sym h, z) (refl, back ∙ read ∙ ap (λ (x : List ℕ). applyAll x (writesOf batch)) copied)
+    batch-accepted z back =
+        let written : after ≡ applyAll st (writesOf (wordsOf batch)) =
+        el ∙ wrote (termsOf (wordsOf grants)) (wordsOf batch) own (sym (ap (λ (x : Answer). x .reason) ea) ∙ z) ∙ ap (λ (x : List ℕ). applyAll x (writesOf (wordsOf batch))) loaded
+        in
+        (rw (e, f) told, rw (e, f, ← told, z, ← written) back)

@@ -1,2 +1,3 @@
-pub mod Names
 pub mod Tree
+pub mod Names
+pub mod Rows

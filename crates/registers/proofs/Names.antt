@@ -7,7 +7,7 @@ use Prim.Native.Nat.{ℕ, zero, suc, _+_, _*_, _≤_, _<_}
 use native.Mathlib.Omega.{arith}
 use borrow.Author.Tests.{eqb-true}
 use lib.Dec.{T, leb, eqb, leb·zero, leb·suc-zero, leb·suc-suc}
-use mir.Facts.{and-yes, leb-yes}
+use mir.Facts.{and-yes, leb-yes, eqb-yes}
 use Rattle.laws.specs.Lists.{All, every, from}
 use Rattle.laws.proofs.Lists.{every-from, every-all}
 use Rattle.laws.proofs.Tests.{true-of}
@@ -111,6 +111,28 @@ row-run o c e n =
     let same : f .0 .name ≡ o = ap (λ (x : ℕ). record { 0 = x }) (sym (f .1)) in
     let exact : runIn (f .0 .name) n ≡ leb n (rowFrom (f .0 .cell)) = runs (rowFrom (f .0 .cell)) (f .0 .name) (both .0) (missing-of _ (both .1)) n in
     rw (same, f .2) at exact
+
+-- an offset that is no video cell's is no register's
+named : Row VideoOffset → Bool
+named r = eqb (offsetOf (r .cell) .0) (r .name .0) && (leb 84 (r .cell .0) && leb (r .cell .0) 100)
+
+tested-names : T (every named videoRows)
+unfolding every named offsetOf videoRows scaler
+tested-names = tt
+
+pub no-video : (o : VideoOffset) → ((c : ℕ) → 84 ≤ c → c < 101 → o .0 ≡ offsetOf (cell c) .0 → ⊥) → findVideo o ≡ Missing
+unfolding findVideo named
+no-video o out = by (find (λ n. eqb (o .0) (n .0)) videoRows) refl
+  where
+    by : (f : Found) → find (λ n. eqb (o .0) (n .0)) videoRows ≡ f → f ≡ Missing
+    by Missing e = refl
+    by (At c) e =
+        let f = found-row (λ r. T (named r)) o c videoRows (every-all named videoRows tested-names) e in
+        let both = and-yes (eqb (offsetOf (f .0 .cell) .0) (f .0 .name .0)) _ (f .3) in
+        let range = and-yes (leb 84 (f .0 .cell .0)) _ (both .1) in
+        let low : 84 ≤ f .0 .cell .0 = leb-yes (range .0) in
+        let high : f .0 .cell .0 ≤ 100 = leb-yes (range .1) in
+        absurd (out (f .0 .cell .0) low (omega arith) (f .1 ∙ sym (eqb-yes (both .0))))
 
 module _ (o : VideoOffset) (c : Cell) (e : findVideo o ≡ At c) where
   ordered : (r : Row VideoOffset) × (o .0 ≡ r .name .0) × (r .cell ≡ c) × T (in-order r)

@@ -1,8 +1,8 @@
 // The register table: the cell that a name names, and the name that a cell has.
 ghost use mathlib.Core.Path.{_≡_};
 ghost use Prim.Native.Nat.{_<_, _≤_};
-ghost use Rattle.meaning.specs.Registers.{find3D, findVideo};
-ghost use Rattle.registers.specs.Names.{nameOf, offsetOf, rowFrom};
+ghost use Rattle.meaning.specs.Registers.{find3D};
+ghost use Rattle.registers.specs.Names.{nameOf, offsetOf};
 use meaning::Cell;
 use meaning::Found;
 use meaning::SubAddress;
@@ -41,46 +41,6 @@ pub fn register_3d(ty: u32, sub: u32, address: SubAddress) -> Found
             _ => Found::Missing,
         },
         _ => Found::Missing,
-    }
-}
-
-// The cell of a video register.
-pub fn register_video(offset: VideoOffset) -> Found
-    ensures found { λ r. ⌜ r ≡ findVideo offset ⌝ }
-{
-    let o = offset.0;
-    match o {
-        0x2208 => Found::At(Cell(84)),
-        0x220c => Found::At(Cell(85)),
-        0x2210 => Found::At(Cell(86)),
-        0x23e4 => Found::At(Cell(87)),
-        0x23e8 => Found::At(Cell(88)),
-        0x23ec => Found::At(Cell(89)),
-        0x23f0 => Found::At(Cell(90)),
-        0x23f4 => Found::At(Cell(91)),
-        0x23f8 => Found::At(Cell(92)),
-        0x23fc => Found::At(Cell(93)),
-        0x33e4 => Found::At(Cell(94)),
-        0x33e8 => Found::At(Cell(95)),
-        0x33ec => Found::At(Cell(96)),
-        0x33f0 => Found::At(Cell(97)),
-        0x33f4 => Found::At(Cell(98)),
-        0x33f8 => Found::At(Cell(99)),
-        0x33fc => Found::At(Cell(100)),
-        _ => Found::Missing,
-    }
-}
-
-// How many video registers stand in a row from a video cell on.
-pub fn row_from(cell: Cell) -> usize
-    ensures row { λ r. ⌜ r ≡ rowFrom cell ⌝ }
-{
-    let c = cell.0;
-    match c {
-        0..=86 => 87 - c,
-        87..=93 => 94 - c,
-        94..=100 => 101 - c,
-        _ => 0,
     }
 }
 

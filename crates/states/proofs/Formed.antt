@@ -11,32 +11,13 @@ use native.Mathlib.Numerals.{add-one}
 use borrow.Author.Tests.{ne-eqb, le-leb, lt-leb}
 use lib.Dec.{T, eqb, leb, leb→le}
 use lib.ListN.{length}
-use lib.Bits.{bitAnd, bitOr, or-zero-l, or-add-and, and-le-l, and-le-r, and-zero-r, and-mask}
+use lib.Bits.{bitAnd, bitOr, and-zero-r, and-mask}
 use Rattle.laws.specs.Lists.{every, from}
 use Rattle.laws.specs.Tests.{implies}
 use Rattle.meaning.specs.Registers.{cells, cell}
 use Rattle.meaning.specs.State.{stateWords, valueAt, markAt, cellFormed, wellFormed}
 use Rattle.laws.proofs.Lists.{every-from}
 use Rattle.states.specs.Marks.{marksTo, clearTo}
-
--- `|` of two numbers is 0 exactly if both are
-pub or-zero : (a b : ℕ) → eqb (bitOr a b) 0 ≡ (eqb a 0 && eqb b 0)
-or-zero zero b = rw (or-zero-l b)
-or-zero (suc a) b = rw (ne-eqb (suc a) 0 (λ e. omega arith)) (ne-eqb (bitOr (suc a) b) 0 (λ e. omega (arith, or-add-and (suc a) b, and-le-r (suc a) b)))
-
--- and at most 1 exactly if both are
-pub or-small : (a b : ℕ) → leb (bitOr a b) 1 ≡ (leb a 1 && leb b 1)
-or-small zero b = rw (or-zero-l b)
-or-small (suc zero) zero = refl
-or-small (suc zero) (suc zero) = refl
-or-small (suc zero) (suc (suc b)) =
-    let sum = or-add-and 1 (suc (suc b)) in
-    let l = and-le-l 1 (suc (suc b)) in
-    rw (lt-leb (bitOr 1 (suc (suc b))) 1 (omega arith), lt-leb (suc (suc b)) 1 (omega arith))
-or-small (suc (suc a)) b =
-    let sum = or-add-and (suc (suc a)) b in
-    let l = and-le-r (suc (suc a)) b in
-    rw (lt-leb (bitOr (suc (suc a)) b) 1 (omega arith), lt-leb (suc (suc a)) 1 (omega arith))
 
 -- a test of numbers in a row, and of one more at their end
 pub every-more : (f : ℕ → Bool) (i n : ℕ) → every f (from i (suc n)) ≡ (every f (from i n) && f (i + n))

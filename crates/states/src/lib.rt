@@ -1,22 +1,44 @@
-// The register state: 101 values, then 101 marks.
+// The register state: 101 values, then 101 marks; as it is lent, in bytes, and as the reader's own copy, in words.
 ghost use mathlib.Core.Path.{_≡_};
-ghost use Prim.Native.Nat.{_≤_, _-_};
+ghost use Prim.Native.Nat.{_≤_, _<_, _-_};
 ghost use lib.Dec.{T, leb, eqb};
 ghost use lib.ListN.{length};
+ghost use Rattle.laws.specs.Lists.{over};
 ghost use Rattle.laws.specs.Tests.{implies};
+ghost use Rattle.meaning.specs.Words.{wordsOf, bytesOf};
 ghost use Rattle.meaning.specs.Registers.{cells};
-ghost use Rattle.meaning.specs.State.{wellFormed};
+ghost use Rattle.meaning.specs.State.{stateWords, valueAt, markAt, wellFormed};
 ghost use Rattle.states.specs.Marks.{marksTo, clearTo, oneIfMarked, markedIn};
+use meaning::Cell;
+use meaning::State;
+
+// The value of a cell,
+pub fn value(state: &[u8], cell: Cell) -> u32
+    requires whole { ⌜ length (wordsOf (now state)) ≡ stateWords ⌝ }
+    requires inside { ⌜ cell .0 < cells ⌝ }
+    ensures value { λ r. ⌜ r ≡ valueAt (wordsOf (now (state .entry))) cell ⌝ }
+{
+    words::word(state, cell.0)
+}
+
+// and its mark.
+pub fn mark(state: &[u8], cell: Cell) -> u32
+    requires whole { ⌜ length (wordsOf (now state)) ≡ stateWords ⌝ }
+    requires inside { ⌜ cell .0 < cells ⌝ }
+    ensures mark { λ r. ⌜ r ≡ markAt (wordsOf (now (state .entry))) cell ⌝ }
+{
+    words::word(state, 101 + cell.0)
+}
 
 // All marks, gathered by `|`: at most 1 exactly if each is.
-fn gathered_marks(state: &[u32]) -> u32
-    requires whole { ⌜ length (now state) ≡ 202 ⌝ }
-    ensures small { λ r. ⌜ leb r 1 ≡ marksTo (now (state .entry)) cells ⌝ }
+fn gathered_marks(state: &[u8]) -> u32
+    requires whole { ⌜ length (wordsOf (now state)) ≡ stateWords ⌝ }
+    ensures small { λ r. ⌜ leb r 1 ≡ marksTo (wordsOf (now (state .entry))) cells ⌝ }
 {
     let mut marks: u32 = 0;
     let mut c = 0;
     while c < 101 {
-        marks = marks | state[101 + c];
+        marks = marks | mark(state, Cell(c));
         c += 1;
     }
     marks
@@ -31,25 +53,25 @@ fn excess(value: u32, mark: u32) -> u32
 }
 
 // What all cells hold without a mark, gathered by `|`: 0 exactly if no cell holds anything so.
-fn gathered_excess(state: &[u32]) -> u32
-    requires whole { ⌜ length (now state) ≡ 202 ⌝ }
-    requires marks { ⌜ T (marksTo (now state) cells) ⌝ }
-    ensures clear { λ r. ⌜ eqb r 0 ≡ clearTo (now (state .entry)) cells ⌝ }
+fn gathered_excess(state: &[u8]) -> u32
+    requires whole { ⌜ length (wordsOf (now state)) ≡ stateWords ⌝ }
+    requires marks { ⌜ T (marksTo (wordsOf (now state)) cells) ⌝ }
+    ensures clear { λ r. ⌜ eqb r 0 ≡ clearTo (wordsOf (now (state .entry))) cells ⌝ }
 {
     let mut held: u32 = 0;
     let mut c = 0;
     while c < 101 {
-        held = held | excess(state[c], state[101 + c]);
+        held = held | excess(value(state, Cell(c)), mark(state, Cell(c)));
         c += 1;
     }
     held
 }
 
-// Each mark is 0 or 1 and an unmarked value is 0. Two loops with no early way out, so that each becomes one over vectors.
-pub fn well_formed(state: &[u32]) -> bool
-    ensures formed { λ r. ⌜ r ≡ wellFormed (now (state .entry)) ⌝ }
+// 202 words, each mark 0 or 1, and an unmarked value is 0. Two loops with no early way out, so that each becomes one over vectors.
+pub fn well_formed(state: &[u8]) -> bool
+    ensures formed { λ r. ⌜ r ≡ wellFormed (wordsOf (now (state .entry))) ⌝ }
 {
-    if state.len() != 202 {
+    if state.len() / 4 != 202 {
         return false;
     }
     if 1 < gathered_marks(state) {
@@ -68,28 +90,42 @@ fn one(mark: u32) -> usize
 }
 
 // How many of the cells from `first` to before `end` are marked. The caller has seen to the sizes, so that the loop tests none.
-pub fn marked_between(state: &[u32], first: usize, end: usize) -> usize
-    requires inside { ⌜ end ≤ 101 ⌝ }
-    requires whole { ⌜ length (now state) ≡ 202 ⌝ }
-    ensures count { λ r. ⌜ r ≡ markedIn (now (state .entry)) first (end - first) ⌝ }
+pub fn marked_between(state: &[u8], first: usize, end: usize) -> usize
+    requires inside { ⌜ end ≤ cells ⌝ }
+    requires whole { ⌜ length (wordsOf (now state)) ≡ stateWords ⌝ }
+    ensures count { λ r. ⌜ r ≡ markedIn (wordsOf (now (state .entry))) first (end - first) ⌝ }
 {
     let mut n: usize = 0;
     let mut c = first;
     while c < end {
-        n += one(state[101 + c]);
+        n += one(mark(state, Cell(c)));
         c += 1;
     }
     n
 }
 
-// Copies one state over another.
-pub fn copy(from: &[u32], to: &mut [u32])
-    requires same { ⌜ length (now from) ≡ length (now to) ⌝ }
-    ensures copied { λ _. ⌜ now (to .exit) ≡ now (from .entry) ⌝ }
+// Copies a state out of bytes. A function is not told the length of an array behind a reference, so the caller tells it.
+pub fn load(bytes: &[u8], state: &mut State)
+    requires whole { ⌜ length (wordsOf (now bytes)) ≡ stateWords ⌝ }
+    requires array { ⌜ length (now state) ≡ stateWords ⌝ }
+    ensures loaded { λ _. ⌜ now (state .exit) ≡ wordsOf (now (bytes .entry)) ⌝ }
 {
     let mut i = 0;
-    while i < to.len() {
-        to[i] = from[i];
+    while i < 202 {
+        state[i] = words::word(bytes, i);
+        i += 1;
+    }
+}
+
+// And back: bytes past the last whole word stay as they were.
+pub fn store(state: &State, bytes: &mut [u8])
+    requires whole { ⌜ length (wordsOf (now bytes)) ≡ stateWords ⌝ }
+    requires array { ⌜ length (now state) ≡ stateWords ⌝ }
+    ensures stored { λ _. ⌜ now (bytes .exit) ≡ over (bytesOf (now (state .entry))) (now (bytes .entry)) ⌝ }
+{
+    let mut i = 0;
+    while i < 202 {
+        words::put_word(bytes, i, state[i]);
         i += 1;
     }
 }

@@ -27,48 +27,33 @@ pub fn location(value: u32) -> bool
     value / 0x100000 % 4 == 0
 }
 
-// Bytes per pixel of each format byte, 0 where it is reserved: a row for each code in bits 7:3, and in it an entry for each code in
-// bits 2:0. Written as a byte string, which keeps a row on its line.
-const BYTES_PER_PIXEL: [u8; 256] = *b"\
-    \x00\x00\x00\x00\x00\x00\x00\x00\
-    \x00\x00\x00\x00\x00\x00\x00\x00\
-    \x00\x00\x00\x00\x00\x02\x02\x00\
-    \x00\x00\x00\x00\x00\x00\x00\x00\
-    \x00\x00\x00\x00\x00\x00\x00\x00\
-    \x00\x00\x00\x00\x00\x00\x00\x00\
-    \x02\x00\x00\x00\x00\x00\x00\x00\
-    \x00\x00\x00\x00\x00\x00\x00\x00\
-    \x00\x00\x00\x00\x00\x00\x00\x00\
-    \x00\x00\x00\x00\x00\x00\x00\x00\
-    \x00\x00\x00\x00\x00\x00\x00\x00\
-    \x00\x00\x00\x00\x00\x00\x00\x00\
-    \x00\x00\x00\x00\x00\x00\x00\x00\
-    \x00\x00\x00\x00\x00\x00\x00\x00\
-    \x00\x00\x00\x00\x00\x00\x00\x00\
-    \x00\x00\x00\x00\x00\x00\x00\x00\
-    \x00\x00\x00\x00\x00\x00\x00\x00\
-    \x02\x02\x02\x02\x00\x02\x00\x00\
-    \x00\x00\x00\x00\x00\x00\x00\x00\
-    \x04\x04\x04\x00\x00\x00\x00\x00\
-    \x00\x00\x00\x00\x00\x00\x00\x00\
-    \x02\x02\x02\x02\x00\x02\x00\x00\
-    \x00\x00\x00\x00\x00\x00\x00\x00\
-    \x04\x04\x04\x04\x00\x00\x00\x00\
-    \x00\x00\x00\x00\x00\x00\x00\x00\
-    \x02\x02\x02\x02\x00\x02\x00\x00\
-    \x00\x00\x00\x00\x00\x00\x00\x00\
-    \x04\x04\x04\x00\x00\x00\x00\x00\
-    \x02\x02\x02\x02\x00\x02\x00\x00\
-    \x04\x04\x04\x00\x00\x00\x00\x00\
-    \x02\x00\x00\x00\x04\x04\x00\x00\
-    \x00\x00\x00\x00\x00\x00\x00\x00\
-    ";
+// Bytes per pixel of each format byte, 0 where it is reserved: a hex digit for each of the 256, sixteen to a row, the lowest in the lowest
+// place. A constant table is copied wherever it is used, so that one of 256 bytes would cost twice as much as the rest of a word.
+const BYTES_PER_PIXEL: [u64; 16] = [
+    0x0000000000000000,
+    0x0000000002200000,
+    0x0000000000000000,
+    0x0000000000000002,
+    0x0000000000000000,
+    0x0000000000000000,
+    0x0000000000000000,
+    0x0000000000000000,
+    0x0020222200000000,
+    0x0000044400000000,
+    0x0020222200000000,
+    0x0000444400000000,
+    0x0020222200000000,
+    0x0000044400000000,
+    0x0000044400202222,
+    0x0000000000440002,
+];
 
 // Only the low eight bits count: so every number has an answer, and no index needs a test.
-pub fn bytes_per_pixel(byte: u32) -> u32
+pub fn bytes_per_pixel(byte: u32) -> u64
     ensures found { λ r. ⌜ r ≡ rules.bytesPerPixel byte ⌝ }
 {
-    numbers::wide(BYTES_PER_PIXEL[(byte % 256) as usize])
+    let row = BYTES_PER_PIXEL[(byte / 16 % 16) as usize];
+    (row >> (byte % 16 * 4)) % 16
 }
 
 // A format byte is permitted exactly if its pixels have bytes.

@@ -14,7 +14,7 @@ use Rattle.meaning.specs.declared.Cell.{Cell}
 use Rattle.meaning.specs.declared.SubAddress.{SubAddress}
 use Rattle.meaning.specs.Registers.{any, noAddress, alphaSelect, cell, Register, Row, Group, targetGroup, stage, sample, groups, scaler, videoRows, registerAmong, registerAt}
 use Rattle.meaning.proofs.Table.{Rows, Row3D, RowVideo, Groups, table-3D, table-video, firstVideo}
-use Rattle.verdicts.specs.Reasons.{Scaler, first, second, scalerRegister}
+use Rattle.verdicts.specs.Scalers.{Scaler, first, second}
 
 -- the table has for the row's cell the row's own register
 abbrev pub Own : {Name : Type 0} → Row Name → Type 0
@@ -172,21 +172,3 @@ pub own-scaler : (c role : ℕ) → Scaler c role → All Own (scaler c 0 role)
 unfolding scaler
 own-scaler _ _ first = own-scalers .0
 own-scaler _ _ second = own-scalers .1
-
--- the mask of a row that stands so far on
-pub clear-at : (c i j : ℕ) {row : Register} → registerAt (cell j) ≡ row → c + i ≡ j → row .clear ≡ registerAt (cell (c + i)) .clear
-clear-at c i j own at = sym (ap (λ (k : ℕ). registerAt (cell k) .clear) at ∙ ap (λ (r : Register). r .clear) own)
-
--- whatever it holds, it has its mask
-clear-of : (role m : ℕ) (b : Bool) → scalerRegister role m b .clear ≡ m
-clear-of role m true = refl
-clear-of role m false = refl
-
--- the scaler's register at the cell holds an address, or it does not
-abbrev pub Holds : ℕ → Bool → ℕ → Type 0
-Holds role b c = registerAt (cell c) ≡ scalerRegister role (registerAt (cell c) .clear) b
-
-pub holds : (role m c : ℕ) (b : Bool) → registerAt (cell c) ≡ scalerRegister role m b → Holds role b c
-holds role m c b own =
-    let clear : registerAt (cell c) .clear ≡ m = ap (λ (r : Register). r .clear) own ∙ clear-of role m b in
-    own ∙ ap (λ (k : ℕ). scalerRegister role k b) (sym clear)

@@ -1,1 +1,1 @@
-pub mod Reasons
+pub mod Scalers

@@ -4,10 +4,13 @@ ghost use Prim.Native.Nat.{ℕ, _+_, _*_, _≤_, _<_, _^_};
 ghost use lib.Dec.{eqb};
 ghost use lib.Bits.{bitAnd};
 ghost use Rattle.meaning.specs.Registers.{cell, registerAt};
-ghost use Rattle.meaning.specs.Grants.{Terms};
+ghost use Rattle.meaning.specs.Grants.{Terms, mostGrants};
 ghost use Rattle.meaning.specs.Answers.{bitSet, success};
 ghost use Rattle.meaning.specs.Reader.{unless, valueReason};
-ghost use Rattle.verdicts.specs.Reasons.{Spanned, Scaler, scalerRegister};
+ghost use Rattle.grants.specs.Kept.{Granting};
+ghost use Rattle.verdicts.specs.Scalers.{Scaler, addressRegister};
+use grants::Part;
+use grants::Spans;
 use values::alpha_constants;
 use values::alpha_select;
 use values::filters;
@@ -41,12 +44,14 @@ pub fn alpha_constants_reason(value: u32) -> u32
     0
 }
 
-// 01.00.50, cell 1. The address is in steps of 256, so that a value of 24 bits names any of them.
-pub fn target_address_reason(value: u32, targets: &[u32]) -> u32
+// 01.00.50, cell 1. The address is in steps of 256, so that a value of 24 bits names any of them. Here and below `starts` and `lasts` are
+// the grants as they are kept, and `part` those of the address's role.
+pub fn target_address_reason(value: u32, starts: &Spans, lasts: &Spans, part: Part) -> u32
     requires narrow { ⌜ value < 2 ^ 24 ⌝ }
-    ensures reason { λ r. ⌜ ((g : Terms) → Spanned g 1 (now (targets .entry)) → r ≡ valueReason g (registerAt (cell 1)) value) ⌝ }
+    requires kept { ⌜ part .to ≤ mostGrants ⌝ }
+    ensures reason { λ r. ⌜ ((g : Terms) → Granting g 1 (now (starts .entry)) (now (lasts .entry)) part → r ≡ valueReason g (registerAt (cell 1)) value) ⌝ }
 {
-    if !grants::covered(targets, value * 256) {
+    if !grants::covered(starts, lasts, part, value * 256) {
         return 9;
     }
     0
@@ -144,53 +149,66 @@ pub fn alpha_select_reason(value: u32) -> u32
     0
 }
 
-// The bits that must be clear in each of a scaler's registers: the second scaler is a copy of the first.
-fn scaler_mask(index: usize) -> u32
-    requires seven { ⌜ index < 7 ⌝ }
-    ensures mask { λ r. ⌜ ((c role : ℕ) → Scaler c role → r ≡ registerAt (cell (c + index)) .clear) ⌝ }
+// A scaler's register that holds an address: bits 28:4 kept in place, the rest 0.
+fn scaler_address_reason(value: u32, mask: u32, starts: &Spans, lasts: &Spans, part: Part) -> u32
+    requires kept { ⌜ part .to ≤ mostGrants ⌝ }
+    ensures reason { λ r. ⌜ ((g : Terms) (role : ℕ) → Granting g role (now (starts .entry)) (now (lasts .entry)) part → r ≡ valueReason g (addressRegister role mask) value) ⌝ }
 {
-    match index {
-        0 => 0x76ffe0fe,
-        1 => 0x6ffe0000,
-        2 => 0x2000000c,
-        3 => 0xe000000c,
-        4 => 0xffffc00f,
-        5 => 0x0decc00f,
-        _ => 0xe000000c,
-    }
-}
-
-// Which of them hold an address; the others take any value.
-fn scaler_holds(index: usize) -> bool
-    requires seven { ⌜ index < 7 ⌝ }
-    ensures holds { λ r. ⌜ ((c role : ℕ) → Scaler c role → registerAt (cell (c + index)) ≡ scalerRegister role (registerAt (cell (c + index)) .clear) r) ⌝ }
-{
-    match index {
-        0..=1 => false,
-        2..=3 => true,
-        4..=5 => false,
-        _ => true,
-    }
-}
-
-// 23E4 to 23FC, cells 87 to 93, and 33E4 to 33FC, cells 94 to 100: the scalers differ in nothing but the role of their addresses. An
-// address is bits 28:4 kept in place, the rest 0.
-pub fn scaler_reason(index: usize, value: u32, spans: &[u32]) -> u32
-    requires seven { ⌜ index < 7 ⌝ }
-    ensures first { λ r. ⌜ ((g : Terms) → Spanned g 2 (now (spans .entry)) → r ≡ valueReason g (registerAt (cell (87 + index))) value) ⌝ }
-    ensures second { λ r. ⌜ ((g : Terms) → Spanned g 3 (now (spans .entry)) → r ≡ valueReason g (registerAt (cell (94 + index))) value) ⌝ }
-{
-    if !must_be_clear(value, scaler_mask(index)) {
+    if !must_be_clear(value, mask) {
         return 7;
-    }
-    if !scaler_holds(index) {
-        return 0;
     }
     if !memory_location(value) {
         return 8;
     }
-    if !grants::covered(spans, value / 16 % 0x2000000 * 16) {
+    if !grants::covered(starts, lasts, part, value / 16 % 0x2000000 * 16) {
         return 9;
     }
     0
+}
+
+// The registers of a scaler. The two differ in nothing but the role of their addresses.
+
+// 23E4 and 33E4: cells 87 and 94.
+pub fn deinterlace_reason(value: u32) -> u32
+    ensures reason { λ r. ⌜ ((g : Terms) (c role : ℕ) → Scaler c role → r ≡ valueReason g (registerAt (cell c)) value) ⌝ }
+{
+    masked_reason(value, 0x76ffe0fe)
+}
+
+// 23E8 and 33E8: cells 88 and 95.
+pub fn sub_picture_reason(value: u32) -> u32
+    ensures reason { λ r. ⌜ ((g : Terms) (c role : ℕ) → Scaler c role → r ≡ valueReason g (registerAt (cell (c + 1))) value) ⌝ }
+{
+    masked_reason(value, 0x6ffe0000)
+}
+
+// 23EC and 33EC: cells 89 and 96.
+pub fn first_address_reason(value: u32, starts: &Spans, lasts: &Spans, part: Part) -> u32
+    requires kept { ⌜ part .to ≤ mostGrants ⌝ }
+    ensures reason { λ r. ⌜ ((g : Terms) (c role : ℕ) → Scaler c role → Granting g role (now (starts .entry)) (now (lasts .entry)) part → r ≡ valueReason g (registerAt (cell (c + 2))) value) ⌝ }
+{
+    scaler_address_reason(value, 0x2000000c, starts, lasts, part)
+}
+
+// 23F0, 23FC, 33F0 and 33FC: cells 90, 93, 97 and 100, which are alike.
+pub fn address_reason(value: u32, starts: &Spans, lasts: &Spans, part: Part) -> u32
+    requires kept { ⌜ part .to ≤ mostGrants ⌝ }
+    ensures second { λ r. ⌜ ((g : Terms) (c role : ℕ) → Scaler c role → Granting g role (now (starts .entry)) (now (lasts .entry)) part → r ≡ valueReason g (registerAt (cell (c + 3))) value) ⌝ }
+    ensures third { λ r. ⌜ ((g : Terms) (c role : ℕ) → Scaler c role → Granting g role (now (starts .entry)) (now (lasts .entry)) part → r ≡ valueReason g (registerAt (cell (c + 6))) value) ⌝ }
+{
+    scaler_address_reason(value, 0xe000000c, starts, lasts, part)
+}
+
+// 23F4 and 33F4: cells 91 and 98.
+pub fn destination_stride_reason(value: u32) -> u32
+    ensures reason { λ r. ⌜ ((g : Terms) (c role : ℕ) → Scaler c role → r ≡ valueReason g (registerAt (cell (c + 4))) value) ⌝ }
+{
+    masked_reason(value, 0xffffc00f)
+}
+
+// 23F8 and 33F8: cells 92 and 99.
+pub fn source_stride_reason(value: u32) -> u32
+    ensures reason { λ r. ⌜ ((g : Terms) (c role : ℕ) → Scaler c role → r ≡ valueReason g (registerAt (cell (c + 5))) value) ⌝ }
+{
+    masked_reason(value, 0x0decc00f)
 }

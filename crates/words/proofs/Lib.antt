@@ -1,3 +1,2 @@
 pub mod Words
-pub mod Copying
-pub mod Held
+pub mod Stores

@@ -1,76 +1,93 @@
--- The writer's answer and the output after it, by what its tests came to.
+-- The writer's answer, by what its tests came to; and what a search tells that finds no bad cell.
 -- Assumes nothing.
-use mathlib.Core.Path.{_≡_, refl, sym, ap, _∙_}
-use mathlib.Core.Bool.{Bool, true, false, cond}
+use mathlib.Core.Path.{_≡_, refl, ap}
+use mathlib.Core.Bool.{Bool, true, false}
 use mathlib.Core.List.{List}
-use Prim.Native.Nat.{ℕ, _≤_}
+use Prim.Native.Nat.{ℕ, _≤_, _<_}
 use native.Mathlib.Omega.{arith}
-use borrow.Author.Tests.{ne-eqb, leb-true}
-use lib.Dec.{leb, eqb}
+use borrow.Author.Tests.{le-leb, lt-leb}
+use lib.Dec.{T, eqb}
 use lib.ListN.{length}
-use Rattle.laws.specs.Lists.{over}
+use mir.Facts.{eqb-yes}
+use Rattle.laws.specs.Lists.{every, from}
+use Rattle.laws.proofs.Lists.{every-from}
 use Rattle.laws.proofs.Tests.{holds-of}
 use Rattle.meaning.specs.declared.Found.{Found}
 use Rattle.meaning.specs.declared.Found.the-variants.{At, Missing}
 use Rattle.meaning.specs.declared.Answer.{Answer}
-use Rattle.meaning.specs.Registers.{cells}
-use Rattle.meaning.specs.Grants.{grantsFine, termsOf}
-use Rattle.meaning.specs.State.{stateWords, wellFormed}
-use Rattle.meaning.specs.Answers.{badState, badGrants, noRoom, success, answer, provided}
-use Rattle.meaning.proofs.States.{formed-iff}
+use Rattle.meaning.specs.Registers.{cells, cell, groups, targetGroup, stage, sample, videoRows, scaler, registerAmong, registerAt}
+use Rattle.meaning.specs.Grants.{Terms, mostGrants, grantsFine, termsOf}
+use Rattle.meaning.specs.State.{wellFormed}
+use Rattle.meaning.specs.Answers.{badState, badGrants, noRoom, notWritable, success, answer}
+use Rattle.meaning.specs.Writer.{written, lowestBad, exceptAt, writeAnswer}
+use Rattle.meaning.proofs.Round.{Lowest, lowest-told}
+use Rattle.grants.specs.Kept.{keptAfter, Keeps, Bounded}
+use Rattle.grants.proofs.Keeping.{keeps}
 use Rattle.emitter.specs.Emitted.{Narrow}
-use Rattle.writer.proofs.Lowest.{none-narrow}
-use Rattle.meaning.specs.Writer.{written, lowestBad, exceptAt, writeAnswer, writeLeaves}
+use Rattle.writer.specs.Search.{orEnd, lowest}
 
--- a well-formed state is whole
-pub whole : (st : List ℕ) → wellFormed st ≡ true → length st ≡ stateWords
-whole st e = formed-iff st .0 (holds-of e) .size
+-- ---- what the number tells of the search among all cells
 
--- the answer on the cells, then the answer on the room
-first-of : (f : Found) (n : ℕ) (a : Answer) → cond (eqb (exceptAt f (answer success n) .reason) success) a (exceptAt f (answer success n)) ≡ exceptAt f a
-first-of (At c) n a = refl
-first-of Missing n a = refl
+module _ (g : Terms) (st : List ℕ) {low : ℕ} where
+  by-found : (f : Found) → Lowest g st 0 cells f → low ≡ orEnd f cells → (low < cells → (a : Answer) → answer notWritable low ≡ exceptAt f a) × (cells ≤ low → f ≡ Missing)
+  by-found (At c) is e = (λ l a. ap (answer notWritable) e, λ l. absurd (omega (arith, is .to)))
+  by-found Missing is e = (λ l. absurd (omega arith), λ l. refl)
 
--- a success of both
-both-fine : (f : Found) (b : Bool) (need : ℕ) → exceptAt f (provided b noRoom (answer success need)) .reason ≡ 0 → (f ≡ Missing) × (b ≡ true)
-both-fine (At c) b need z = absurd (omega arith)
-both-fine Missing true need z = (refl, refl)
-both-fine Missing false need z = absurd (omega arith)
+  told : low ≡ lowest g st 0 cells → (low < cells → (a : Answer) → answer notWritable low ≡ exceptAt (lowestBad g st 0 cells) a) × (cells ≤ low → lowestBad g st 0 cells ≡ Missing)
+  unfolding lowest
+  told e = by-found (lowestBad g st 0 cells) (lowest-told g st 0 cells) e
 
-module _ (st grants out : List ℕ) where
-  pub state-refused : wellFormed st ≡ false → (answer badState 0 ≡ writeAnswer st grants (length out)) × (out ≡ writeLeaves st grants out)
-  unfolding writeAnswer writeLeaves
-  state-refused e = rw e (refl, refl)
+-- ---- where no cell is bad, marked 3D values are narrow
 
-  pub grants-refused : wellFormed st ≡ true → grantsFine grants ≡ false → (answer badGrants 0 ≡ writeAnswer st grants (length out)) × (out ≡ writeLeaves st grants out)
-  unfolding writeAnswer writeLeaves
-  grants-refused e f = rw (e, f) (refl, refl)
+-- by a computed test of each cell
+asWide : ℕ → Bool
+asWide c = eqb (registerAt (cell c) .width) 24
 
--- what the answer on cells and room is, and what a success tells before the words are stored
-pub record Told (st grants out : List ℕ) (r : Answer) : Type 0 where
-  pub refused : (r .reason ≡ 0 → ⊥) → (r ≡ writeAnswer st grants (length out)) × (out ≡ writeLeaves st grants out)
-  pub narrow : r .reason ≡ 0 → Narrow st
-  pub room : r .reason ≡ 0 → length (written st) ≤ length out
-  pub done : r .reason ≡ 0 → {left : List ℕ} → left ≡ over (written st) out → (r ≡ writeAnswer st grants (length out)) × (left ≡ writeLeaves st grants out)
+tested : T (every asWide (from 0 84))
+unfolding asWide every from registerAt registerAmong groups targetGroup stage sample videoRows scaler
+tested = tt
 
-module _ (st grants out : List ℕ) (e : wellFormed st ≡ true) (f : grantsFine grants ≡ true) {found : Found} (low : found ≡ lowestBad (termsOf grants) st 0 cells)
-    {need : ℕ} (n : need ≡ length (written st)) {a b r : Answer} (ea : a ≡ exceptAt found (answer success need))
-    (eb : b ≡ provided (leb need (length out)) noRoom (answer success need)) (er : r ≡ cond (eqb (a .reason) success) b a) where
-  by-both : r ≡ exceptAt found (provided (leb need (length out)) noRoom (answer success need))
-  by-both = rw (er, ea, eb) (first-of found need (provided (leb need (length out)) noRoom (answer success need)))
+wide-3D : (c : ℕ) → c < 84 → registerAt (cell c) .width ≡ 24
+unfolding asWide
+wide-3D c h = eqb-yes (every-from asWide 0 84 tested c (omega arith) (omega arith))
 
-  answered : r ≡ writeAnswer st grants (length out)
+pub none-narrow : (g : Terms) (st : List ℕ) {low : ℕ} → low ≡ lowest g st 0 cells → cells ≤ low → Narrow st
+none-narrow g st e l c h m =
+    let fine : Lowest g st 0 cells Missing = rw (told g st e .1 l) at (lowest-told g st 0 cells) in
+    rw (wide-3D c h) at (fine c (omega arith) (omega arith) m .narrow)
+
+-- ---- the grants, after `keep`
+
+pub kept-after : (ws starts lasts : List ℕ) {s l b : List ℕ} → length starts ≡ mostGrants → length lasts ≡ mostGrants → grantsFine ws ≡ true
+    → s ≡ keptAfter ws starts lasts .starts → l ≡ keptAfter ws starts lasts .lasts → b ≡ keptAfter ws starts lasts .bounds
+    → Keeps (termsOf ws) s l b × Bounded b
+kept-after ws starts lasts n m f es el eb = rw (es, el, eb) (keeps ws starts lasts n m (holds-of f))
+
+-- ---- the answer
+
+-- room for as many words as are needed is room for the words
+pub room-for : {need words room : ℕ} → need ≡ words → need ≤ room → words ≤ room
+room-for e h = omega arith
+
+module _ (st gs : List ℕ) (room : ℕ) where
+  pub refused-state : wellFormed st ≡ false → answer badState 0 ≡ writeAnswer st gs room
   unfolding writeAnswer
-  answered = by-both ∙ rw (e, f, low, n)
+  refused-state e = rw e
 
-  parts : r .reason ≡ 0 → (found ≡ Missing) × (leb need (length out) ≡ true)
-  parts z = both-fine found (leb need (length out)) need (sym (ap (λ (x : Answer). x .reason) by-both) ∙ z)
+  pub refused-grants : wellFormed st ≡ true → grantsFine gs ≡ false → answer badGrants 0 ≡ writeAnswer st gs room
+  unfolding writeAnswer
+  refused-grants e f = rw (e, f)
 
-  pub told : Told st grants out r
-  unfolding writeLeaves
-  told = record {
-    refused = λ z. (answered, rw (← answered, ne-eqb (r .reason) 0 z));
-    narrow = λ z. none-narrow (termsOf grants) st (sym low ∙ parts z .0);
-    room = λ z. omega (arith, leb-true need (length out) (parts z .1));
-    done = λ z l. (answered, rw (l, ← answered, z));
-  }
+  module _ (e : wellFormed st ≡ true) (f : grantsFine gs ≡ true) {low : ℕ} (is : low ≡ lowest (termsOf gs) st 0 cells) where
+    pub refused-cell : low < cells → answer notWritable low ≡ writeAnswer st gs room
+    unfolding writeAnswer
+    refused-cell l = rw (e, f) (told (termsOf gs) st is .0 l _)
+
+    module _ (l : cells ≤ low) {need : ℕ} (n : need ≡ length (written st)) where
+      pub refused-room : room < need → answer noRoom 0 ≡ writeAnswer st gs room
+      unfolding writeAnswer
+      refused-room h = rw (e, f, told (termsOf gs) st is .1 l, lt-leb (length (written st)) room (omega arith))
+
+      pub done : need ≤ room → answer success need ≡ writeAnswer st gs room
+      unfolding writeAnswer
+      done h = rw (e, f, told (termsOf gs) st is .1 l, le-leb (length (written st)) room (omega arith), n)

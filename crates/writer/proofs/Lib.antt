@@ -1,4 +1,3 @@
-pub mod Writable
+pub mod Rows
 pub mod Lowest
-pub mod Scalers
 pub mod Answers

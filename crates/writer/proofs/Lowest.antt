@@ -1,132 +1,86 @@
--- The search for the lowest bad cell, part by part; and what it tells where it finds none.
+-- The search for the lowest bad cell, part by part.
 -- Assumes nothing.
 use mathlib.Core.Path.{_≡_, refl, sym, ap, _∙_}
-use mathlib.Core.Bool.{Bool, true, false, not, cond}
+use mathlib.Core.Bool.{Bool, true, false, cond}
 use mathlib.Core.List.{List}
 use Prim.Native.Nat.{ℕ, zero, suc, _+_, _-_, _≤_, _<_}
 use native.Mathlib.Omega.{arith}
 use native.Mathlib.Nat.{zero-add, suc-add, add-suc, add-zero}
-use Rattle.laws.proofs.Arms.{told-true, told-false}
-use Rattle.meaning.specs.declared.Cell.{Cell}
 use Rattle.meaning.specs.declared.Found.{Found}
-use Rattle.meaning.specs.declared.Found.the-variants.{At, Missing}
-use Rattle.meaning.specs.Registers.{cells, cell}
+use Rattle.meaning.specs.declared.Found.the-variants.{At}
+use Rattle.meaning.specs.Registers.{cell}
 use Rattle.meaning.specs.Grants.{Terms}
 use Rattle.meaning.specs.Writer.{writable, lowestBad}
-use Rattle.meaning.proofs.Round.{Lowest, lowest-told}
-use Rattle.emitter.specs.Emitted.{Narrow}
-use Rattle.writer.specs.Search.{orRest}
-use Rattle.writer.proofs.Writable.{wide-3D}
-
--- ---- parts of a search
-
--- what the first part found; where it found nothing, what the rest finds
-abbrev orElse : Found → Found → Found
-orElse (At c) rest = At c
-orElse Missing rest = rest
-
-else-pick : (b : Bool) (more : Found) (c : Cell) (rest : Found) → cond b (orElse more rest) (At c) ≡ orElse (cond b more (At c)) rest
-else-pick true more c rest = refl
-else-pick false more c rest = refl
+use Rattle.writer.specs.Search.{orEnd, lowest}
 
 module _ (g : Terms) (st : List ℕ) where
-  in-parts : (i n m : ℕ) → lowestBad g st i (n + m) ≡ orElse (lowestBad g st i n) (lowestBad g st (i + n) m)
-  unfolding lowestBad
-  in-parts i zero m = rw (zero-add m, add-zero i)
-  in-parts i (suc n) m =
-      rw (suc-add n m, add-suc i n, ← suc-add i n)
-      (ap (λ (more : Found). cond (writable g st (cell i)) more (At (cell i))) (in-parts (suc i) n m)
-      ∙ else-pick (writable g st (cell i)) (lowestBad g st (suc i) n) (cell i) (lowestBad g st (suc i + n) m))
+  none-here : (i : ℕ) → lowest g st i 0 ≡ i
+  unfolding lowest lowestBad
+  none-here i = add-zero i
 
-  one-fine : (c : ℕ) → writable g st (cell c) ≡ true → lowestBad g st c 1 ≡ Missing
-  unfolding lowestBad
-  one-fine c e = rw e
+  -- the first cell, then the others
+  first-cell : (i n : ℕ) → lowest g st i (suc n) ≡ cond (writable g st (cell i)) (lowest g st (suc i) n) i
+  unfolding lowest lowestBad
+  first-cell i n = rw (add-suc i n, ← suc-add i n) (pick (writable g st (cell i)) (lowestBad g st (suc i) n))
+    where
+      pick : (b : Bool) (more : Found) → orEnd (cond b more (At (cell i))) (suc i + n) ≡ cond b (orEnd more (suc i + n)) i
+      pick true more = refl
+      pick false more = refl
 
-  one-bad : (c : ℕ) → writable g st (cell c) ≡ false → lowestBad g st c 1 ≡ At (cell c)
-  unfolding lowestBad
-  one-bad c e = rw e
+  one-fine : (i : ℕ) → writable g st (cell i) ≡ true → lowest g st i 1 ≡ suc i
+  one-fine i e = first-cell i 0 ∙ rw e (none-here (suc i))
 
-  -- no cells have no bad one
-  pub nothing : (c : ℕ) → lowestBad g st c 0 ≡ Missing
-  unfolding lowestBad
-  nothing c = refl
+  one-bad : (i : ℕ) → writable g st (cell i) ≡ false → lowest g st i 1 ≡ i
+  one-bad i e = first-cell i 0 ∙ rw e
+
+  -- n cells, then m
+  abbrev Parts : ℕ → ℕ → ℕ → Type 0
+  Parts i n m =
+      (i + n ≤ lowest g st i n → lowest g st i (n + m) ≡ lowest g st (i + n) m)
+      × (lowest g st i n < i + n → lowest g st i (n + m) ≡ lowest g st i n)
+
+  in-parts : (i n m : ℕ) → Parts i n m
+  in-parts i zero m = (λ l. rw (zero-add m, add-zero i), λ l. absurd (omega (arith, none-here i)))
+  in-parts i (suc n) m = rw (suc-add n m, add-suc i n, ← suc-add i n, first-cell i n, first-cell i (n + m)) (pick (writable g st (cell i)) (in-parts (suc i) n m))
+    where
+      pick : (b : Bool) → Parts (suc i) n m →
+          (suc i + n ≤ cond b (lowest g st (suc i) n) i → cond b (lowest g st (suc i) (n + m)) i ≡ lowest g st (suc i + n) m)
+          × (cond b (lowest g st (suc i) n) i < suc i + n → cond b (lowest g st (suc i) (n + m)) i ≡ cond b (lowest g st (suc i) n) i)
+      pick true more = more
+      pick false more = (λ l. absurd (omega arith), λ l. refl)
 
 -- the search from c on is what is left of the search among n cells from i on
 pub record Left (g : Terms) (st : List ℕ) (i n c : ℕ) : Type 0 where
-  pub same : lowestBad g st c (i + n - c) ≡ lowestBad g st i n
+  pub same : lowest g st c (i + n - c) ≡ lowest g st i n
 
 pub all-left : (g : Terms) (st : List ℕ) (i n : ℕ) → Left g st i n i
-all-left g st i n = record { same = ap (lowestBad g st i) (omega arith) }
+all-left g st i n = record { same = ap (lowest g st i) (omega arith) }
 
 module _ {g : Terms} {st : List ℕ} {i n c : ℕ} (left : Left g st i n c) where
-  split : (m : ℕ) → c + m ≤ i + n → orElse (lowestBad g st c m) (lowestBad g st (c + m) (i + n - (c + m))) ≡ lowestBad g st i n
-  split m l =
-      let e : i + n - c ≡ m + (i + n - (c + m)) = omega arith in
-      sym (in-parts g st c m (i + n - (c + m))) ∙ sym (ap (lowestBad g st c) e) ∙ left .same
+  -- the next m cells by themselves, by what the search among them told: there is no bad one,
+  pub went : (m d : ℕ) → c + m ≡ d → d ≤ i + n → {r : ℕ} → r ≡ lowest g st c m → d ≤ r → Left g st i n d
+  went m d e l t h =
+      let all : i + n - c ≡ m + (i + n - d) = omega arith in
+      record { same = ap (λ (x : ℕ). lowest g st x (i + n - d)) (sym e) ∙ sym (in-parts g st c m (i + n - d) .0 (omega arith)) ∙ ap (lowest g st c) (sym all) ∙ left .same }
 
-  -- a part has no bad cell
-  pub went : (m d : ℕ) → c + m ≤ i + n → c + m ≡ d → lowestBad g st c m ≡ Missing → Left g st i n d
-  went m d l e none = let rest = rw (none, e) at (split m l) in record { same = rest }
+  -- or there is one
+  pub stopped : (m : ℕ) → c + m ≤ i + n → {r : ℕ} → r ≡ lowest g st c m → r < c + m → r ≡ lowest g st i n
+  stopped m l t h =
+      let all : i + n - c ≡ m + (i + n - (c + m)) = omega arith in
+      t ∙ sym (in-parts g st c m (i + n - (c + m)) .1 (omega arith)) ∙ ap (lowest g st c) (sym all) ∙ left .same
 
-  -- or it has one
-  pub stopped : (m : ℕ) → c + m ≤ i + n → (x : Cell) → lowestBad g st c m ≡ At x → At x ≡ lowestBad g st i n
-  stopped m l x found = let rest = rw found at (split m l) in rest
+  -- the last of them tell the rest
+  pub last-part : (m : ℕ) → c + m ≡ i + n → {r : ℕ} → r ≡ lowest g st c m → r ≡ lowest g st i n
+  last-part m e t = let all : m ≡ i + n - c = omega arith in t ∙ ap (lowest g st c) all ∙ left .same
 
-  -- the next cell may be written
-  pub past-cell : {r : Bool} → r ≡ writable g st (cell c) → not r ≡ false → (d : ℕ) → c + 1 ≡ d → d ≤ i + n → Left g st i n d
-  past-cell e t d s l = went 1 d (omega arith) s (one-fine g st c (told-true e t))
+  -- none are left
+  pub passed : c ≡ i + n → c ≡ lowest g st i n
+  passed e = last-part 0 (omega arith) (sym (none-here g st c))
+
+  -- the next cell may be written,
+  pub past-cell : (d : ℕ) → c + 1 ≡ d → d ≤ i + n → writable g st (cell c) ≡ true → Left g st i n d
+  past-cell d e l fine = went 1 d e l (sym (one-fine g st c fine)) (omega arith)
 
   -- or it may not
-  pub at-cell : {r : Bool} → r ≡ writable g st (cell c) → not r ≡ true → c + 1 ≤ i + n → At (cell c) ≡ lowestBad g st i n
-  at-cell e t l = stopped 1 l (cell c) (one-bad g st c (told-false e t))
-
-  pub passed : i + n ≤ c → Missing ≡ lowestBad g st i n
-  unfolding lowestBad
-  passed l = let none : i + n - c ≡ 0 = omega arith in let rest = rw none at (left .same) in rest
-
-  -- the last part, by its end
-  pub last-part : (m : ℕ) → c + m ≡ i + n → lowestBad g st c m ≡ lowestBad g st i n
-  last-part m e = let whole : m ≡ i + n - c = omega arith in ap (lowestBad g st c) whole ∙ left .same
-
--- ---- a search from the last cell to the first
-
-rest-parts : (f more : Found) (rest : Cell) → orRest f (orRest more rest) ≡ orRest (orElse f more) rest
-rest-parts (At c) more rest = refl
-rest-parts Missing more rest = refl
-
-module _ (g : Terms) (st : List ℕ) where
-  -- a part before what was looked at: n cells from c on, and m from d on
-  pub in-front : (c n d m : ℕ) → c + n ≡ d → (rest : Cell) {x r : Cell} → x ≡ orRest (lowestBad g st d m) rest → r ≡ orRest (lowestBad g st c n) x
-      → r ≡ orRest (lowestBad g st c (n + m)) rest
-  in-front c n d m e rest p q =
-      let parts = rw e at (in-parts g st c n m) in
-      q ∙ ap (orRest (lowestBad g st c n)) p ∙ rest-parts (lowestBad g st c n) (lowestBad g st d m) rest ∙ ap (λ (f : Found). orRest f rest) (sym parts)
-
-  -- a cell before it
-  pub cell-in-front : (c d m : ℕ) → c + 1 ≡ d → (rest : Cell) {x r : Cell} {b : Bool} → b ≡ writable g st (cell c) → r ≡ cond b x (cell c) → x ≡ orRest (lowestBad g st d m) rest
-      → r ≡ orRest (lowestBad g st c (1 + m)) rest
-  unfolding lowestBad
-  cell-in-front c d m s rest {x} e f p = in-front c 1 d m s rest p (f ∙ rw e (pick (writable g st (cell c))))
-    where
-      pick : (b : Bool) → cond b x (cell c) ≡ orRest (cond b Missing (At (cell c))) x
-      pick true = refl
-      pick false = refl
-
--- what the number tells of the search
-module _ (g : Terms) (st : List ℕ) {r : Cell} (e : r ≡ orRest (lowestBad g st 84 17) (cell cells)) where
-  at-end : (f : Found) → Lowest g st 84 17 f → (r ≡ orRest f (cell cells)) → (r .0 < cells → At r ≡ f) × (cells ≤ r .0 → Missing ≡ f)
-  at-end (At c) low h = (λ l. ap At h, λ l. absurd (omega (arith, low .to, ap (λ (x : Cell). x .0) h)))
-  at-end Missing low h = (λ l. absurd (omega (arith, ap (λ (x : Cell). x .0) h)), λ l. refl)
-
-  pub found-video : r .0 < cells → At r ≡ lowestBad g st 84 17
-  found-video = at-end (lowestBad g st 84 17) (lowest-told g st 84 17) e .0
-
-  pub none-video : cells ≤ r .0 → Missing ≡ lowestBad g st 84 17
-  none-video = at-end (lowestBad g st 84 17) (lowest-told g st 84 17) e .1
-
--- ---- where no cell is bad, marked 3D values are narrow
-
-pub none-narrow : (g : Terms) (st : List ℕ) → lowestBad g st 0 cells ≡ Missing → Narrow st
-none-narrow g st e c l m =
-    let fine : Lowest g st 0 cells Missing = rw e at (lowest-told g st 0 cells) in
-    rw (wide-3D c l) at (fine c (omega arith) (omega arith) m .narrow)
+  pub at-cell : c < i + n → writable g st (cell c) ≡ false → c ≡ lowest g st i n
+  at-cell l bad = stopped 1 (omega arith) (sym (one-bad g st c bad)) (omega arith)

@@ -1,315 +1,287 @@
 // The writer: a state as the batch that reaches it from the empty state.
 ghost use mathlib.Core.Path.{_≡_};
-ghost use mathlib.Core.Bool.{_&&_, cond};
-ghost use Prim.Native.Nat.{ℕ, _+_, _*_, _^_, _≤_, _<_};
-ghost use lib.Dec.{T, leb, ltb, eqb};
+ghost use mathlib.Core.Bool.{_&&_};
+ghost use Prim.Native.Nat.{ℕ, _+_, _*_, _/_, _^_, _≤_, _<_};
+ghost use lib.Dec.{T, ltb, eqb};
 ghost use lib.ListN.{length};
-ghost use Rattle.laws.specs.Tests.{implies};
+ghost use Rattle.laws.specs.Lists.{over};
+ghost use Rattle.meaning.specs.Words.{wordsOf, bytesOf};
 ghost use Rattle.meaning.specs.Registers.{cells, cell};
-ghost use Rattle.meaning.specs.Grants.{Terms, grantsFine, termsOf};
-ghost use Rattle.meaning.specs.State.{stateWords, markAt};
-ghost use Rattle.meaning.specs.Answers as answers;
-ghost use Rattle.meaning.specs.Writer.{writable, lowestBad, exceptAt, writeAnswer, writeLeaves};
-ghost use Rattle.grants.specs.Spans.{held};
-ghost use Rattle.verdicts.specs.Reasons.{Spanned, Scaler};
-ghost use Rattle.emitter.specs.Emitted.{many};
-ghost use Rattle.writer.specs.Search.{orRest};
+ghost use Rattle.meaning.specs.Grants.{Terms, mostGrants};
+ghost use Rattle.meaning.specs.State.{wellFormed};
+ghost use Rattle.meaning.specs.Answers.{settle};
+ghost use Rattle.meaning.specs.Writer.{written, writable, writeAnswer};
+ghost use Rattle.grants.specs.Kept.{Granting, Bounded, Keeps};
+ghost use Rattle.verdicts.specs.Scalers.{Scaler};
+ghost use Rattle.writer.specs.Search.{lowest, takes3D};
+use grants::Bounds;
+use grants::Part;
+use grants::Spans;
 use meaning::Answer;
 use meaning::Cell;
-use meaning::Found;
 
-// A 3D cell may be written: it is unmarked, or its value is 24 bits wide and nothing speaks against it.
-fn fine(mark: u32, value: u32, reason: u32) -> bool
-    ensures fine { λ r. ⌜ r ≡ implies (ltb 0 mark) (ltb value (2 ^ 24) && eqb reason 0) ⌝ }
+// A 3D value may be written: it is 24 bits wide, and nothing speaks against it. A register that takes 0 needs no look at the mark: where
+// a state is well-formed, an unmarked value is 0.
+fn fine(value: u32, reason: u32) -> bool
+    ensures fine { λ r. ⌜ r ≡ (ltb value (2 ^ 24) && eqb reason 0) ⌝ }
 {
-    if mark == 0 {
-        return true;
-    }
     if 0xffffff < value {
         return false;
     }
     reason == 0
 }
 
-// The same for cell 1, whose address is asked for only where the value is narrow. Here and below `t`, `f` and `s` are the spans of the
-// target, of the first scaler and of the second.
-fn target_fine(state: &[u32], t: &[u32]) -> bool
-    requires whole { ⌜ length (now state) ≡ stateWords ⌝ }
-    ensures fine { λ r. ⌜ ((g : Terms) → Spanned g 1 (now (t .entry)) → r ≡ writable g (now (state .entry)) (cell 1)) ⌝ }
+// Cell 1, whose address may be granted or not, and whose value is asked for only where it is narrow. Here and below `starts` and `lasts`
+// are the grants as they are kept, and `part` those of the addresses' role.
+fn target_fine(state: &[u8], starts: &Spans, lasts: &Spans, part: Part) -> bool
+    requires formed { ⌜ T (wellFormed (wordsOf (now state))) ⌝ }
+    requires kept { ⌜ part .to ≤ mostGrants ⌝ }
+    ensures fine { λ r. ⌜ ((g : Terms) → Granting g 1 (now (starts .entry)) (now (lasts .entry)) part → r ≡ writable g (wordsOf (now (state .entry))) (cell 1)) ⌝ }
 {
-    if state[102] == 0 {
+    if states::mark(state, Cell(1)) == 0 {
         return true;
     }
-    let v = state[1];
-    if 0xffffff < v {
+    let address = states::value(state, Cell(1));
+    if 0xffffff < address {
         return false;
     }
-    verdicts::target_address_reason(v, t) == 0
+    verdicts::target_address_reason(address, starts, lasts, part) == 0
 }
 
-// The lowest of the cells of 01.00 that may not be written.
-fn bad_in_target(state: &[u32], t: &[u32]) -> Found
-    requires whole { ⌜ length (now state) ≡ stateWords ⌝ }
-    ensures lowest { λ r. ⌜ ((g : Terms) → Spanned g 1 (now (t .entry)) → r ≡ lowestBad g (now (state .entry)) 0 4) ⌝ }
+// Cell 3, whose format byte must not be 0.
+fn format_fine(state: &[u8]) -> bool
+    requires formed { ⌜ T (wellFormed (wordsOf (now state))) ⌝ }
+    ensures fine { λ r. ⌜ ((g : Terms) → r ≡ writable g (wordsOf (now (state .entry))) (cell 3)) ⌝ }
 {
-    if !fine(
-        state[101],
-        state[0],
-        verdicts::alpha_constants_reason(state[0]),
-    ) {
-        return Found::At(Cell(0));
+    if states::mark(state, Cell(3)) == 0 {
+        return true;
     }
-    if !target_fine(state, t) {
-        return Found::At(Cell(1));
-    }
-    if !fine(state[103], state[2], verdicts::location_reason(state[2])) {
-        return Found::At(Cell(2));
-    }
-    if !fine(state[104], state[3], verdicts::format_reason(state[3])) {
-        return Found::At(Cell(3));
-    }
-    Found::Missing
+    let value = states::value(state, Cell(3));
+    fine(value, verdicts::format_reason(value))
 }
 
-// The same for 02.0n,
-fn bad_in_stage(state: &[u32], n: usize) -> Found
-    requires whole { ⌜ length (now state) ≡ stateWords ⌝ }
-    requires stage { ⌜ n < many ⌝ }
-    ensures lowest { λ r. ⌜ ((g : Terms) → r ≡ lowestBad g (now (state .entry)) (4 + 2 * n) 2) ⌝ }
+// The lowest of the cells of 01.00 that may not be written, or the cell after them. The same below for other cells.
+fn bad_in_target(state: &[u8], starts: &Spans, lasts: &Spans, part: Part) -> usize
+    requires formed { ⌜ T (wellFormed (wordsOf (now state))) ⌝ }
+    requires kept { ⌜ part .to ≤ mostGrants ⌝ }
+    ensures lowest { λ r. ⌜ ((g : Terms) → Granting g 1 (now (starts .entry)) (now (lasts .entry)) part → r ≡ lowest g (wordsOf (now (state .entry))) 0 4) ⌝ }
 {
-    let one = 4 + 2 * n;
-    let two = 5 + 2 * n;
-    if !fine(
-        state[101 + one],
-        state[one],
-        verdicts::stage_reason(state[one]),
-    ) {
-        return Found::At(Cell(one));
+    let alpha = states::value(state, Cell(0));
+    if !fine(alpha, verdicts::alpha_constants_reason(alpha)) {
+        return 0;
     }
-    if !fine(
-        state[101 + two],
-        state[two],
-        verdicts::stage_reason(state[two]),
-    ) {
-        return Found::At(Cell(two));
+    if !target_fine(state, starts, lasts, part) {
+        return 1;
     }
-    Found::Missing
+    let location = states::value(state, Cell(2));
+    if !fine(location, verdicts::location_reason(location)) {
+        return 2;
+    }
+    if !format_fine(state) {
+        return 3;
+    }
+    4
 }
 
-// and for 02.2n.
-fn bad_in_sample(state: &[u32], n: usize) -> Found
-    requires whole { ⌜ length (now state) ≡ stateWords ⌝ }
-    requires sample { ⌜ n < many ⌝ }
-    ensures lowest { λ r. ⌜ ((g : Terms) → r ≡ lowestBad g (now (state .entry)) (36 + 3 * n) 3) ⌝ }
+// A value of 02.0n. Here and below most are 0, which their registers take, and which needs no further look.
+fn stage_fine(value: u32) -> bool
+    ensures fine { λ r. ⌜ ((g : Terms) (c : ℕ) → 4 ≤ c → c < 36 → r ≡ takes3D g c value) ⌝ }
 {
-    let one = 36 + 3 * n;
-    let two = 37 + 3 * n;
-    let three = 38 + 3 * n;
-    if !fine(
-        state[101 + one],
-        state[one],
-        verdicts::levels_reason(state[one]),
-    ) {
-        return Found::At(Cell(one));
+    if value == 0 {
+        return true;
     }
-    if !fine(
-        state[101 + two],
-        state[two],
-        verdicts::filters_reason(state[two]),
-    ) {
-        return Found::At(Cell(two));
-    }
-    if !fine(
-        state[101 + three],
-        state[three],
-        verdicts::mapping_reason(state[three]),
-    ) {
-        return Found::At(Cell(three));
-    }
-    Found::Missing
+    fine(value, verdicts::stage_reason(value))
 }
 
-// The lowest bad cell, once a video cell stands before the rest: that cell, if its value is refused. A word is always narrow enough.
-fn lowest_with(state: &[u32], cell: Cell, reason: u32, rest: Cell) -> Cell
-    requires whole { ⌜ length (now state) ≡ stateWords ⌝ }
-    requires inside { ⌜ cell .0 < cells ⌝ }
-    ensures lowest { λ r. ⌜ r ≡ cond (implies (ltb 0 (markAt (now (state .entry)) cell)) (eqb reason 0)) rest cell ⌝ }
+// The three of 02.2n.
+fn levels_fine(value: u32) -> bool
+    ensures fine { λ r. ⌜ ((g : Terms) (n : ℕ) → n < 16 → r ≡ takes3D g (36 + 3 * n) value) ⌝ }
 {
-    let c = cell.0;
-    if state[101 + c] == 0 {
-        return rest;
+    if value == 0 {
+        return true;
     }
-    if reason == 0 {
-        return rest;
-    }
-    cell
+    fine(value, verdicts::levels_reason(value))
 }
 
-// The same for the seven cells of a scaler. From the last cell to the first, so that what is found last is the lowest. A number is
-// handed on in one register, and an enum is not.
-fn bad_in_scaler(state: &[u32], first: usize, spans: &[u32], rest: Cell) -> Cell
-    requires whole { ⌜ length (now state) ≡ stateWords ⌝ }
-    requires inside { ⌜ first + 7 ≤ cells ⌝ }
-    ensures lowest { λ r. ⌜ ((g : Terms) (role : ℕ) → Scaler first role → Spanned g role (now (spans .entry)) → r ≡ orRest (lowestBad g (now (state .entry)) first 7) rest) ⌝ }
+fn filters_fine(value: u32) -> bool
+    ensures fine { λ r. ⌜ ((g : Terms) (n : ℕ) → n < 16 → r ≡ takes3D g (37 + 3 * n) value) ⌝ }
 {
-    let bad = lowest_with(
-        state,
-        Cell(first + 6),
-        verdicts::scaler_reason(6, state[first + 6], spans),
-        rest,
-    );
-    let bad = lowest_with(
-        state,
-        Cell(first + 5),
-        verdicts::scaler_reason(5, state[first + 5], spans),
-        bad,
-    );
-    let bad = lowest_with(
-        state,
-        Cell(first + 4),
-        verdicts::scaler_reason(4, state[first + 4], spans),
-        bad,
-    );
-    let bad = lowest_with(
-        state,
-        Cell(first + 3),
-        verdicts::scaler_reason(3, state[first + 3], spans),
-        bad,
-    );
-    let bad = lowest_with(
-        state,
-        Cell(first + 2),
-        verdicts::scaler_reason(2, state[first + 2], spans),
-        bad,
-    );
-    let bad = lowest_with(
-        state,
-        Cell(first + 1),
-        verdicts::scaler_reason(1, state[first + 1], spans),
-        bad,
-    );
-    lowest_with(
-        state,
-        Cell(first),
-        verdicts::scaler_reason(0, state[first], spans),
-        bad,
-    )
-}
-
-// The lowest bad video cell, or 101.
-fn bad_in_video(state: &[u32], f: &[u32], s: &[u32]) -> Cell
-    requires whole { ⌜ length (now state) ≡ stateWords ⌝ }
-    ensures lowest { λ r. ⌜ ((g : Terms) → Spanned g 2 (now (f .entry)) → Spanned g 3 (now (s .entry)) → r ≡ orRest (lowestBad g (now (state .entry)) 84 17) (cell cells)) ⌝ }
-{
-    let bad = bad_in_scaler(state, 94, s, Cell(101));
-    let bad = bad_in_scaler(state, 87, f, bad);
-    let bad = lowest_with(
-        state,
-        Cell(86),
-        verdicts::alpha_select_reason(state[86]),
-        bad,
-    );
-    let bad = lowest_with(state, Cell(85), verdicts::overlay_reason(state[85]), bad);
-    lowest_with(state, Cell(84), verdicts::overlay_reason(state[84]), bad)
-}
-
-// The lowest cell that may not be written.
-fn lowest_bad(state: &[u32], t: &[u32], f: &[u32], s: &[u32]) -> Found
-    requires whole { ⌜ length (now state) ≡ stateWords ⌝ }
-    ensures lowest { λ r. ⌜ r ≡ lowestBad (held (now (t .entry)) (now (f .entry)) (now (s .entry))) (now (state .entry)) 0 cells ⌝ }
-{
-    let target = bad_in_target(state, t);
-    match target {
-        Found::At(cell) => return Found::At(cell),
-        Found::Missing => {}
+    if value == 0 {
+        return true;
     }
+    fine(value, verdicts::filters_reason(value))
+}
+
+fn mapping_fine(value: u32) -> bool
+    ensures fine { λ r. ⌜ ((g : Terms) (n : ℕ) → n < 16 → r ≡ takes3D g (38 + 3 * n) value) ⌝ }
+{
+    if value == 0 {
+        return true;
+    }
+    fine(value, verdicts::mapping_reason(value))
+}
+
+// 02.0n for each n.
+fn bad_in_stages(state: &[u8]) -> usize
+    requires formed { ⌜ T (wellFormed (wordsOf (now state))) ⌝ }
+    ensures lowest { λ r. ⌜ ((g : Terms) → r ≡ lowest g (wordsOf (now (state .entry))) 4 32) ⌝ }
+{
+    let mut c = 4;
+    while c < 36 {
+        let value = states::value(state, Cell(c));
+        if !stage_fine(value) {
+            return c;
+        }
+        c += 1;
+    }
+    c
+}
+
+// 02.2n for each n.
+fn bad_in_samples(state: &[u8]) -> usize
+    requires formed { ⌜ T (wellFormed (wordsOf (now state))) ⌝ }
+    ensures lowest { λ r. ⌜ ((g : Terms) → r ≡ lowest g (wordsOf (now (state .entry))) 36 48) ⌝ }
+{
     let mut n = 0;
     while n < 16 {
-        let stage = bad_in_stage(state, n);
-        match stage {
-            Found::At(cell) => return Found::At(cell),
-            Found::Missing => {}
+        let c = 36 + 3 * n;
+        let levels = states::value(state, Cell(c));
+        if !levels_fine(levels) {
+            return c;
+        }
+        let filters = states::value(state, Cell(c + 1));
+        if !filters_fine(filters) {
+            return c + 1;
+        }
+        let mapping = states::value(state, Cell(c + 2));
+        if !mapping_fine(mapping) {
+            return c + 2;
         }
         n += 1;
     }
-    let mut m = 0;
-    while m < 16 {
-        let sample = bad_in_sample(state, m);
-        match sample {
-            Found::At(cell) => return Found::At(cell),
-            Found::Missing => {}
-        }
-        m += 1;
-    }
-    let video = bad_in_video(state, f, s);
-    if video.0 < 101 {
-        return Found::At(video);
-    }
-    Found::Missing
+    84
 }
 
-// The same under a grant list: it is looked at once, and kept by role while the cells are looked at.
-fn lowest_under(state: &[u32], grants: &[u32]) -> Found
-    requires whole { ⌜ length (now state) ≡ stateWords ⌝ }
-    requires fine { ⌜ T (grantsFine (now grants)) ⌝ }
-    ensures lowest { λ r. ⌜ r ≡ lowestBad (termsOf (now (grants .entry))) (now (state .entry)) 0 cells ⌝ }
+// 2208, 220C and 2210. A video value is a word, and always narrow enough.
+fn bad_in_overlay(state: &[u8]) -> usize
+    requires formed { ⌜ T (wellFormed (wordsOf (now state))) ⌝ }
+    ensures lowest { λ r. ⌜ ((g : Terms) → r ≡ lowest g (wordsOf (now (state .entry))) 84 3) ⌝ }
 {
-    let mut spans = [0u32; 128];
-    let kept = grants::keep(grants, &mut spans);
-    let t = kept.targets;
-    let f = kept.firsts;
-    let s = kept.seconds;
-    let all = &spans[..];
-    lowest_bad(state, &all[..t], &all[t..f], &all[f..s])
+    if verdicts::overlay_reason(states::value(state, Cell(84))) != 0 {
+        return 84;
+    }
+    if verdicts::overlay_reason(states::value(state, Cell(85))) != 0 {
+        return 85;
+    }
+    if verdicts::alpha_select_reason(states::value(state, Cell(86))) != 0 {
+        return 86;
+    }
+    87
 }
 
-// 12 at the bad cell; where there is none, 0 and the words that are written.
-fn cell_answer(found: Found, words: usize) -> Answer
-    ensures answer { λ r. ⌜ r ≡ exceptAt found (answers.answer answers.success words) ⌝ }
+// A scaler's third register,
+fn first_address_fine(state: &[u8], base: usize, starts: &Spans, lasts: &Spans, part: Part) -> bool
+    requires formed { ⌜ T (wellFormed (wordsOf (now state))) ⌝ }
+    requires cells { ⌜ base + 7 ≤ cells ⌝ }
+    requires kept { ⌜ part .to ≤ mostGrants ⌝ }
+    ensures fine { λ r. ⌜ ((g : Terms) (role : ℕ) → Scaler base role → Granting g role (now (starts .entry)) (now (lasts .entry)) part → r ≡ writable g (wordsOf (now (state .entry))) (cell (base + 2))) ⌝ }
 {
-    match found {
-        Found::At(cell) => Answer {
-            reason: 12,
-            place: cell.0,
-        },
-        Found::Missing => Answer {
-            reason: 0,
-            place: words,
-        },
+    if states::mark(state, Cell(base + 2)) == 0 {
+        return true;
     }
+    let value = states::value(state, Cell(base + 2));
+    verdicts::first_address_reason(value, starts, lasts, part) == 0
 }
 
-// 11 where the room is less than the need; else 0 and the words that are written.
-fn room_answer(need: usize, room: usize) -> Answer
-    ensures answer { λ r. ⌜ r ≡ answers.provided (leb need room) answers.noRoom (answers.answer answers.success need) ⌝ }
+// and the two others that hold an address.
+fn address_fine(
+    state: &[u8],
+    base: usize,
+    index: usize,
+    starts: &Spans,
+    lasts: &Spans,
+    part: Part,
+) -> bool
+    requires formed { ⌜ T (wellFormed (wordsOf (now state))) ⌝ }
+    requires cells { ⌜ base + 7 ≤ cells ⌝ }
+    requires seven { ⌜ index < 7 ⌝ }
+    requires kept { ⌜ part .to ≤ mostGrants ⌝ }
+    ensures second { λ r. ⌜ ((g : Terms) (role : ℕ) → index ≡ 3 → Scaler base role → Granting g role (now (starts .entry)) (now (lasts .entry)) part → r ≡ writable g (wordsOf (now (state .entry))) (cell (base + 3))) ⌝ }
+    ensures third { λ r. ⌜ ((g : Terms) (role : ℕ) → index ≡ 6 → Scaler base role → Granting g role (now (starts .entry)) (now (lasts .entry)) part → r ≡ writable g (wordsOf (now (state .entry))) (cell (base + 6))) ⌝ }
 {
-    if room < need {
-        return Answer {
-            reason: 11,
-            place: 0,
-        };
+    if states::mark(state, Cell(base + index)) == 0 {
+        return true;
     }
-    Answer {
-        reason: 0,
-        place: need,
-    }
+    let value = states::value(state, Cell(base + index));
+    verdicts::address_reason(value, starts, lasts, part) == 0
 }
 
-// The first of two answers, unless it is a success.
-fn earlier(first: Answer, second: Answer) -> Answer
-    ensures answer { λ r. ⌜ r ≡ cond (eqb (first .reason) answers.success) second first ⌝ }
+// The seven registers of a scaler.
+fn bad_in_scaler(state: &[u8], base: usize, starts: &Spans, lasts: &Spans, part: Part) -> usize
+    requires formed { ⌜ T (wellFormed (wordsOf (now state))) ⌝ }
+    requires cells { ⌜ base + 7 ≤ cells ⌝ }
+    requires kept { ⌜ part .to ≤ mostGrants ⌝ }
+    ensures lowest { λ r. ⌜ ((g : Terms) (role : ℕ) → Scaler base role → Granting g role (now (starts .entry)) (now (lasts .entry)) part → r ≡ lowest g (wordsOf (now (state .entry))) base 7) ⌝ }
 {
-    if first.reason == 0 {
-        return second;
+    if verdicts::deinterlace_reason(states::value(state, Cell(base))) != 0 {
+        return base;
     }
-    first
+    if verdicts::sub_picture_reason(states::value(state, Cell(base + 1))) != 0 {
+        return base + 1;
+    }
+    if !first_address_fine(state, base, starts, lasts, part) {
+        return base + 2;
+    }
+    if !address_fine(state, base, 3, starts, lasts, part) {
+        return base + 3;
+    }
+    if verdicts::destination_stride_reason(states::value(state, Cell(base + 4))) != 0 {
+        return base + 4;
+    }
+    if verdicts::source_stride_reason(states::value(state, Cell(base + 5))) != 0 {
+        return base + 5;
+    }
+    if !address_fine(state, base, 6, starts, lasts, part) {
+        return base + 6;
+    }
+    base + 7
+}
+
+// The lowest cell that may not be written, or 101.
+fn lowest_bad(state: &[u8], starts: &Spans, lasts: &Spans, bounds: &Bounds) -> usize
+    requires formed { ⌜ T (wellFormed (wordsOf (now state))) ⌝ }
+    requires kept { ⌜ Bounded (now bounds) ⌝ }
+    ensures lowest { λ r. ⌜ ((g : Terms) → Keeps g (now (starts .entry)) (now (lasts .entry)) (now (bounds .entry)) → r ≡ lowest g (wordsOf (now (state .entry))) 0 cells) ⌝ }
+{
+    let target = bad_in_target(state, starts, lasts, grants::part_of(bounds, 1));
+    if target < 4 {
+        return target;
+    }
+    let stage = bad_in_stages(state);
+    if stage < 36 {
+        return stage;
+    }
+    let sample = bad_in_samples(state);
+    if sample < 84 {
+        return sample;
+    }
+    let overlay = bad_in_overlay(state);
+    if overlay < 87 {
+        return overlay;
+    }
+    let first = bad_in_scaler(state, 87, starts, lasts, grants::part_of(bounds, 2));
+    if first < 94 {
+        return first;
+    }
+    bad_in_scaler(state, 94, starts, lasts, grants::part_of(bounds, 3))
 }
 
 // Writes the batch: 1 and 2 as the reader has them, 12 at the lowest cell that may not be written, 11 if the output is too short,
-// else 0 and the words written. The output is changed only once nothing can be refused any more.
-pub fn write(state: &[u32], grants: &[u32], out: &mut [u32]) -> Answer
-    ensures answer { λ r. ⌜ r ≡ writeAnswer (now (state .entry)) (now (grants .entry)) (length (now (out .entry))) ⌝ }
-    ensures words { λ _. ⌜ now (out .exit) ≡ writeLeaves (now (state .entry)) (now (grants .entry)) (now (out .entry)) ⌝ }
+// else 0 and the words written. The output is changed only once nothing can be refused any more; bytes past the last whole word of a
+// buffer count for nothing.
+pub fn write(state: &[u8], grants: &[u8], out: &mut [u8]) -> Answer
+    ensures answer { λ r. ⌜ r ≡ writeAnswer (wordsOf (now (state .entry))) (wordsOf (now (grants .entry))) (length (now (out .entry)) / 4) ⌝ }
+    ensures bytes { λ r. ⌜ now (out .exit) ≡ settle r (over (bytesOf (written (wordsOf (now (state .entry))))) (now (out .entry))) (now (out .entry)) ⌝ }
 {
     if !states::well_formed(state) {
         return Answer {
@@ -317,20 +289,32 @@ pub fn write(state: &[u32], grants: &[u32], out: &mut [u32]) -> Answer
             place: 0,
         };
     }
-    if !grants::grants_fine(grants) {
+    let mut starts = [0u32; 64];
+    let mut lasts = [0u32; 64];
+    let mut bounds = [0usize; 8];
+    if !grants::keep(grants, &mut starts, &mut lasts, &mut bounds) {
         return Answer {
             reason: 2,
             place: 0,
         };
     }
-    let lowest = lowest_under(state, grants);
-    let need = emitter::needed(state);
-    let cells = cell_answer(lowest, need);
-    let room = room_answer(need, out.len());
-    let answer = earlier(cells, room);
-    if answer.reason != 0 {
-        return answer;
+    let lowest = lowest_bad(state, &starts, &lasts, &bounds);
+    if lowest < 101 {
+        return Answer {
+            reason: 12,
+            place: lowest,
+        };
     }
-    emitter::emit(state, out);
-    answer
+    let need = emitter::needed(state);
+    if out.len() / 4 < need.in_all {
+        return Answer {
+            reason: 11,
+            place: 0,
+        };
+    }
+    emitter::emit(state, out, need.in_3d);
+    Answer {
+        reason: 0,
+        place: need.in_all,
+    }
 }

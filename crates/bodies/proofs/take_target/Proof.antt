@@ -1,129 +1,96 @@
-use Rattle.bodies.proofs.Bodies.{inside-3D, pass, pass-on, pass-stop, pass-done, as-answer, as-state, askedParameter, storedParameter, parameters-pass, parameter-asked, parameter-stored, data-narrow}
-use Rattle.meaning.specs.declared.Kind.the-variants.{Parameter}
-use Rattle.bodies.specs.Passes.{bodyFrom}
-use Rattle.verdicts.specs.Reasons.{Spanned}
-use Rattle.meaning.specs.Reader.{wordReason}
-use Rattle.meaning.specs.State.{stateWords}
-use Rattle.meaning.specs.Grants.{Terms}
-use lib.ListN.{length, getD, drop}
-use Prim.Native.Nat.{_+_, _-_, _≤_, _<_, _^_}
-use mathlib.Core.Path.{_≡_, sym, _∙_}
-use borrow.Author.Needs.{needs}
+-- Each word is judged and stored: to read on from here is to read the whole.
+-- Assumes nothing.
+use mathlib.Core.Path.{_≡_, refl, ap, _∙_}
+use Prim.Native.Nat.{_-_, _≤_}
 use native.Mathlib.Omega.{arith}
+use borrow.Author.Needs.{needs}
+use lib.ListN.{getD}
+use lib.Seq.{slice}
+use Rattle.meaning.specs.declared.Kind.the-variants.{Parameter}
+use Rattle.meaning.specs.Words.{subAddress, data24, wordsOf}
+use Rattle.meaning.specs.Grants.{Terms}
+use Rattle.meaning.specs.Reader.{wordReason}
+use Rattle.grants.specs.Kept.{Granting}
+use Rattle.bodies.specs.Passes.{stored, bodyFrom}
+use Rattle.bodies.proofs.Bodies.{inside-3D, body-on, body-stop, body-done, as-answer, as-state, same-setting, parameter-asked, parameter-stored, data-narrow, among-words}
 use Rattle.bodies.proofs.take_target.Statement.{statement}
 use Rattle.bodies.proofs.take_target.Tie as tie
-use Rattle.bodies.proofs.take_target.Reads as reads
-use Rattle.bodies.proofs.take_target.Lts as lts
-use Rattle.bodies.proofs.store_found.Reads as store-found-reads
-use Rattle.bodies.proofs.target_reason.Reads as target-reason-reads
-use Rattle.fields.proofs.data.Reads as data-reads
-use Rattle.fields.proofs.sub_address.Reads as sub-address-reads
-use Rattle.registers.proofs.register_3d.Reads as register-3d-reads
 
 abbrev Inv-loop : tie.InvT-loop
-Inv-loop words start setting targets state₀ i₀ state i =
-    (i ≤ length words) × (start + length words < 2 ^ 64) × (length state ≡ stateWords)
-    × ((g : Terms) → Spanned g 1 targets → pass (askedParameter g start setting) (storedParameter g start setting) start i (drop i words) state ≡ bodyFrom g start (Parameter setting) words state₀)
+Inv-loop batch first end setting starts lasts part state₀ at₀ state at =
+    (at ≤ end) × ((g : Terms) → Granting g 1 starts lasts part → bodyFrom g at (Parameter setting) (slice at end (wordsOf batch)) state ≡ bodyFrom g first (Parameter setting) (slice first end (wordsOf batch)) state₀)
 
 abbrev μ-loop : tie.MeasureT-loop
-μ-loop words start setting targets state₀ i₀ state i = length words - i
+μ-loop batch first end setting starts lasts part state₀ at₀ state at =
+    end - at
 
 -- what is asked of the word at hand
 asked : (c : tie.After-target-reason Inv-loop μ-loop) → (g : Terms)
     → let l = c .before .before .before .before .before in
-    let a = l .before .before .before .before .args in
-    Spanned g 1 (a .targets .now) → c .target-reason .result ≡ wordReason g (Parameter (a .setting)) (getD (a .words .now) (l .loop .i) 0)
+    let a = l .before .before .args in
+    Granting g 1 (a .starts .now) (a .lasts .now) (a .part) → c .target-reason .result ≡ wordReason g (Parameter (a .setting)) (getD (wordsOf (a .batch .now)) (l .loop .at) 0)
 asked c g given =
-    let s = c .before .before .before .before .before .before .before .before .before in
-    parameter-asked g _ _ (s .pre .1 .0) (s .pre .1 .1 .0) (c .before .before .sub-address .ensures) (c .before .«data» .ensures) (c .target-reason .ensures g given)
+    let s = c .before .before .before .before .before .before .before in
+    let e = c .before .before .before .word .ensures in
+    parameter-asked g _ _ (s .pre .1 .1 .0) (s .pre .1 .1 .1 .0) (c .before .before .sub-address .ensures ∙ ap subAddress e) (c .before .«data» .ensures ∙ ap data24 e) (c .target-reason .ensures g given)
 
--- src/lib.rt:116:5
+-- and what is stored of it
+kept : (k : tie.After-store-found Inv-loop μ-loop) → (g : Terms)
+    → let l = k .before .before .before .before .before .before .before .before .before in
+    let a = l .before .before .args in
+    k .store-found .last .0 ≡ stored (Parameter (a .setting)) (getD (wordsOf (a .batch .now)) (l .loop .at) 0) (l .loop .state)
+kept k g =
+    let c = k .before .before .before .before in
+    let s = c .before .before .before .before .before .before .before in
+    let e = c .before .before .before .word .ensures in
+    parameter-stored g _ _ (s .pre .1 .1 .0) (s .pre .1 .1 .1 .0) (c .before .before .sub-address .ensures ∙ ap subAddress e) (c .before .«data» .ensures ∙ ap data24 e) _ (k .store-found .ensures) (k .before .before .register-3d .ensures)
+
 loop-holds : tie.Need-loop-holds Inv-loop μ-loop
-loop-holds c =
-    let s = c .before .before .before in
-    (omega arith, s .pre .0, s .pre .1 .1 .1, λ g given. sym (parameters-pass g _ _ _ _))
+loop-holds c = (omega arith, λ g given. refl)
 
--- src/lib.rt:117:17
-mul-w : tie.Need-mul-w Inv-loop μ-loop
-mul-w c = omega arith
+word-requires : tie.Need-word-requires Inv-loop μ-loop
+word-requires c κs = omega arith
 
--- src/lib.rt:117:17
-shared-slice-read-w : tie.Need-shared-slice-read-w Inv-loop μ-loop
-shared-slice-read-w c = omega arith
-
--- src/lib.rt:118:13
 sub-address-requires : tie.Need-sub-address-requires Inv-loop μ-loop
 sub-address-requires c κs = search needs
 
--- src/lib.rt:119:13
 data-requires : tie.Need-data-requires Inv-loop μ-loop
 data-requires c κs = search needs
 
--- src/lib.rt:120:13
 target-reason-requires : tie.Need-target-reason-requires Inv-loop μ-loop
-target-reason-requires c κs = data-narrow _ (c .«data» .ensures)
+target-reason-requires c κs = (data-narrow _ (c .«data» .ensures), c .before .before .before .before .before .before .pre .1 .1 .1 .1)
 
--- src/lib.rt:124:24
-add-t16 : tie.Need-add-t16 Inv-loop μ-loop
-add-t16 c = omega arith
-
--- src/lib.rt:122:13
-same-length : tie.Need-same-length Inv-loop μ-loop
-same-length c = let l = c .before .before .before .before .before .before in l .loop .inv .2 ∙ sym (l .before .before .before .before .pre .1 .1 .1)
-
--- src/lib.rt:122:13
 returns : tie.Need-returns Inv-loop μ-loop
-returns c =
-    let r = c .before in
-    let l = r .before .before .before .before .before in (
-      λ g given. as-answer (pass-stop _ _ _ _ _ _ (l .loop .i) (l .loop .inv .3 g given) (omega arith) (asked r g given) (c .if1 .taken)),
-      λ g given. as-state (pass-stop _ _ _ _ _ _ (l .loop .i) (l .loop .inv .3 g given) (omega arith) (asked r g given) (c .if1 .taken)),
+returns c = let r = c .before in
+    let l = r .before .before .before .before .before in
+    let s = l .before .before in (
+      λ g given. as-answer (body-stop g _ _ _ (among-words (s .args .batch .now) _ (s .pre .1 .0)) _ _ _ (l .loop .inv .1 g given) (omega arith) (asked r g given) (c .if1 .taken)),
+      λ g given. as-state (body-stop g _ _ _ (among-words (s .args .batch .now) _ (s .pre .1 .0)) _ _ _ (l .loop .inv .1 g given) (omega arith) (asked r g given) (c .if1 .taken)),
     )
 
--- src/lib.rt:127:13
 register-3d-requires : tie.Need-register-3d-requires Inv-loop μ-loop
 register-3d-requires c κs = search needs
 
--- src/lib.rt:128:9
 store-found-requires : tie.Need-store-found-requires Inv-loop μ-loop
-store-found-requires c κs = (c .before .before .before .before .before .before .before .before .loop .inv .2, inside-3D _ _ _ (c .before .register-3d .ensures))
+store-found-requires c κs = inside-3D _ _ _ (c .before .register-3d .ensures)
 
--- src/lib.rt:129:9
-add-i : tie.Need-add-i Inv-loop μ-loop
-add-i c = omega arith
+add-at : tie.Need-add-at Inv-loop μ-loop
+add-at c = omega arith
 
--- src/lib.rt:116:5
 loop-less : tie.Need-loop-less Inv-loop μ-loop
 loop-less c = omega arith
 
--- src/lib.rt:116:5
 loop-again : tie.Need-loop-again Inv-loop μ-loop
-loop-again c =
-    let k = c .before .before in
-    let r = k .before .before .before .before in
+loop-again c = let r = c .before .before .before .before in
     let l = r .before .before .before .before .before in
-    let s = l .before .before .before .before in (
-      omega arith,
-      l .loop .inv .1,
-      k .store-found .kept .0 ∙ l .loop .inv .2,
-      λ g given. pass-on _ _ _ _ _ _ (l .loop .i) (l .loop .inv .3 g given) (omega arith) (asked r g given) (k .before .before .before .if1 .left)
-          (parameter-stored g _ _ (s .pre .1 .0) (s .pre .1 .1 .0) (r .before .before .sub-address .ensures) (r .before .«data» .ensures) _ (k .store-found .ensures) (k .before .before .register-3d .ensures)),
-    )
+    let s = l .before .before in
+    (omega arith, λ g given. body-on g _ _ _ (among-words (s .args .batch .now) _ (s .pre .1 .0)) _ _ _ (l .loop .inv .1 g given) (omega arith) (asked r g given) (c .before .before .before .if1 .left) (same-setting _ _) (kept c g))
 
--- src/lib.rt:133:16
-add-t20 : tie.Need-add-t20 Inv-loop μ-loop
-add-t20 c = omega arith
-
--- src/lib.rt:101:1
-same-length-2 : tie.Need-same-length-2 Inv-loop μ-loop
-same-length-2 c = let l = c .before in l .loop .inv .2 ∙ sym (l .before .before .before .before .pre .1 .1 .1)
-
--- src/lib.rt:101:1
 returns-2 : tie.Need-returns-2 Inv-loop μ-loop
-returns-2 c =
-    let l = c .before in (
-      λ g given. as-answer (pass-done _ _ _ _ _ _ (l .loop .i) (l .loop .inv .3 g given) (omega arith)),
-      λ g given. as-state (pass-done _ _ _ _ _ _ (l .loop .i) (l .loop .inv .3 g given) (omega arith)),
+returns-2 c = let l = c .before in
+    let s = l .before .before in (
+      λ g given. as-answer (body-done g _ _ _ (among-words (s .args .batch .now) _ (s .pre .1 .0)) _ _ _ (l .loop .inv .1 g given) (omega arith)),
+      λ g given. as-state (body-done g _ _ _ (among-words (s .args .batch .now) _ (s .pre .1 .0)) _ _ _ (l .loop .inv .1 g given) (omega arith)),
     )
 
 pub take-target-spec : {M : Type 1} → statement M
@@ -133,19 +100,14 @@ take-target-spec =
     Inv-loop
     μ-loop
     loop-holds
-    mul-w
-    shared-slice-read-w
+    word-requires
     sub-address-requires
     data-requires
     target-reason-requires
-    add-t16
-    same-length
     returns
     register-3d-requires
     store-found-requires
-    add-i
+    add-at
     loop-less
     loop-again
-    add-t20
-    same-length-2
     returns-2)

@@ -2,36 +2,37 @@
 -- Assumes nothing.
 use mathlib.Core.Path.{_≡_, ap, _∙_}
 use mathlib.Core.List.{List}
-use Prim.Native.Nat.{ℕ, _+_, _≤_}
+use Prim.Native.Nat.{ℕ, _+_, _/_, _≤_}
 use native.Mathlib.Omega.{arith}
 use lib.ListN.{length}
-use lib.Seq.{sets, length-sets}
 use Rattle.laws.specs.Lists.{over}
+use Rattle.meaning.specs.Words.{wordsOf, bytesOf}
 use Rattle.meaning.specs.Writer.{written}
-use Rattle.laws.proofs.Stores.{sets-append, sets-over}
+use Rattle.words.specs.Stores.{putWords}
+use Rattle.words.proofs.Stores.{length-put, put-append, put-over}
 use Rattle.emitter.specs.Emitted.{words3D, wordsVideo}
 use Rattle.emitter.proofs.Emitted.{written-parts, written-length}
 use borrow.Author.Needs.{needs}
 use Rattle.emitter.proofs.emit.Statement.{statement}
 use Rattle.emitter.proofs.emit.Tie as tie
 
-stored : (st old mid out : List ℕ) (at : ℕ) → length (written st) ≤ length old → at ≡ length (words3D st) → mid ≡ sets old 0 (words3D st)
-    → out ≡ sets mid at (wordsVideo st) → out ≡ over (written st) old
+stored : (st old mid out : List ℕ) (at : ℕ) → length (written st) ≤ length old / 4 → at ≡ length (words3D st) → mid ≡ putWords old 0 (words3D st)
+    → out ≡ putWords mid at (wordsVideo st) → out ≡ over (bytesOf (written st)) old
 stored st old mid out at room ends one two =
     let e : at ≡ 0 + length (words3D st) = omega arith in
-    rw (two, one, e, sets-append old 0 (words3D st) (wordsVideo st), ← written-parts st) (sets-over (written st) old room)
+    rw (two, one, e, put-append old 0 (words3D st) (wordsVideo st), ← written-parts st) (put-over (written st) old room)
 
 emit-3d-requires : tie.Need-emit-3d-requires
 emit-3d-requires c κs =
-    let s = c .before .before .before in (s .pre .0, (s .pre .1 .0, omega (arith, s .pre .1 .1, written-length (s .args .state .now))))
+    let s = c .before .before .before in (s .pre .0, (s .pre .1 .0, (omega (arith, s .pre .1 .1 .0, written-length (wordsOf (s .args .state .now))), s .pre .1 .1 .1)))
 
 emit-video-requires : tie.Need-emit-video-requires
 emit-video-requires c κs =
     let e = c .before .before .before in
     let s = e .before .before .before .before in
-    let st = s .args .state .now in
-    let long = ap length (e .emit-3d .ensures .1) ∙ length-sets (s .args .out .now) 0 (words3D st) in
-    (s .pre .0, omega (arith, s .pre .1 .1, written-length st, e .emit-3d .ensures .0, long))
+    let st = wordsOf (s .args .state .now) in
+    let long = ap length (e .emit-3d .ensures .1) ∙ length-put (s .args .out .now) 0 (words3D st) in
+    (s .pre .0, omega (arith, s .pre .1 .1 .0, written-length st, e .emit-3d .ensures .0, long))
 
 same-length : tie.Need-same-length
 same-length c = search needs
@@ -41,8 +42,8 @@ returns c =
     let v = c .before .before in
     let e = v .before .before .before .before in
     let s = e .before .before .before .before in
-    stored (s .args .state .now) (s .args .out .now) (e .emit-3d .last .1 .0) (v .emit-video .last .1 .0) (e .emit-3d .result)
-    (s .pre .1 .1) (e .emit-3d .ensures .0) (e .emit-3d .ensures .1) (v .emit-video .ensures)
+    stored (wordsOf (s .args .state .now)) (s .args .out .now) (e .emit-3d .last .1 .0) (v .emit-video .last .1 .0) (e .emit-3d .result)
+    (s .pre .1 .1 .0) (e .emit-3d .ensures .0) (e .emit-3d .ensures .1) (v .emit-video .ensures)
 
 pub emit-spec : {M : Type 1} → statement M
 emit-spec = tie.close (tie.spec emit-3d-requires emit-video-requires same-length returns)

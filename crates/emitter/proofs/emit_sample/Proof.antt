@@ -6,28 +6,29 @@ use Prim.Native.Nat.{ℕ, _+_, _*_}
 use native.Mathlib.Omega.{arith}
 use borrow.Author.Needs.{needs}
 use lib.ListN.{length}
+use Rattle.meaning.specs.Words.{wordsOf}
 use Rattle.emitter.proofs.Packets.{Open, opened, room-parameter, stored, head-order, head-near, head-room, closed, at-cell, sampleParameters, sample-words, sample-few}
 use Rattle.emitter.proofs.emit_sample.Statement.{statement}
 use Rattle.emitter.proofs.emit_sample.Tie as tie
 
 -- the parameters of the cells
 abbrev first : tie.Start → List ℕ
-first s = at-cell (s .args .state .now) (36 + 3 * s .args .n) 0x30
+first s = at-cell (wordsOf (s .args .state .now)) (36 + 3 * s .args .n) 0x30
 
 abbrev second : tie.Start → List ℕ
-second s = at-cell (s .args .state .now) (37 + 3 * s .args .n) 0x31
+second s = at-cell (wordsOf (s .args .state .now)) (37 + 3 * s .args .n) 0x31
 
 abbrev third : tie.Start → List ℕ
-third s = at-cell (s .args .state .now) (38 + 3 * s .args .n) 0x32
+third s = at-cell (wordsOf (s .args .state .now)) (38 + 3 * s .args .n) 0x32
 
 -- the packet, with so much of it left to store
 abbrev Storing : tie.Start → List ℕ → List ℕ → ℕ → Type 0
-Storing s left out end = Open 0x02 (0x20 + s .args .n) (sampleParameters (s .args .state .now) (s .args .n)) (s .args .out .now) (s .args .at) left out end
+Storing s left out end = Open 0x02 (0x20 + s .args .n) (sampleParameters (wordsOf (s .args .state .now)) (s .args .n)) (s .args .out .now) (s .args .at) left out end
 
 start : (s : tie.Start) → Storing s (first s ++ (second s ++ (third s ++ []))) (s .args .out .now) (s .args .at + 2)
 start s =
     let a = s .args in
-    opened 0x02 (0x20 + s .args .n) (sampleParameters (a .state .now) (s .args .n)) (a .out .now) (a .at) (omega (arith, s .pre .1 .1 .1 .1, ap length (sample-words (a .state .now) (s .args .n))))
+    opened 0x02 (0x20 + s .args .n) (sampleParameters (wordsOf (a .state .now)) (s .args .n)) (a .out .now) (a .at) (omega (arith, s .pre .1 .1 .1 .1, ap length (sample-words (wordsOf (a .state .now)) (s .args .n))))
 
 mul-t8 : tie.Need-mul-t8
 mul-t8 c = search needs
@@ -85,7 +86,7 @@ close-packet-requires : tie.Need-close-packet-requires
 close-packet-requires c κs =
     let s = c .before .before .before .before .before .before .before .before .before .before .before .before .before .before .before in
     let e = after3 (c .before .before .before) in
-    (s .pre .1 .1 .0, (head-order e, (head-near e (sample-few (s .args .state .now) (s .args .n)), (omega arith, (omega arith, head-room e)))))
+    (s .pre .1 .1 .0, (head-order e, (head-near e (sample-few (wordsOf (s .args .state .now)) (s .args .n)), (omega arith, (omega arith, head-room e)))))
 
 same-length : tie.Need-same-length
 same-length c = search needs
@@ -94,7 +95,7 @@ returns : tie.Need-returns
 returns c =
     let k = c .before .before in
     let s = k .before .before .before .before .before .before .before .before .before .before .before .before .before .before .before .before in
-    rw (sample-words (s .args .state .now) (s .args .n)) (closed (after3 (k .before .before .before .before)) (k .close-packet .ensures .0) (k .close-packet .ensures .1))
+    rw (sample-words (wordsOf (s .args .state .now)) (s .args .n)) (closed (after3 (k .before .before .before .before)) (k .close-packet .ensures .0) (k .close-packet .ensures .1))
 
 pub emit-sample-spec : {M : Type 1} → statement M
 emit-sample-spec =

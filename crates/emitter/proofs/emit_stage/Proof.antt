@@ -6,25 +6,26 @@ use Prim.Native.Nat.{ℕ, _+_, _*_}
 use native.Mathlib.Omega.{arith}
 use borrow.Author.Needs.{needs}
 use lib.ListN.{length}
+use Rattle.meaning.specs.Words.{wordsOf}
 use Rattle.emitter.proofs.Packets.{Open, opened, room-parameter, stored, head-order, head-near, head-room, closed, at-cell, stageParameters, stage-words, stage-few}
 use Rattle.emitter.proofs.emit_stage.Statement.{statement}
 use Rattle.emitter.proofs.emit_stage.Tie as tie
 
 -- the parameters of the cells
 abbrev first : tie.Start → List ℕ
-first s = at-cell (s .args .state .now) (4 + 2 * s .args .n) 0x50
+first s = at-cell (wordsOf (s .args .state .now)) (4 + 2 * s .args .n) 0x50
 
 abbrev second : tie.Start → List ℕ
-second s = at-cell (s .args .state .now) (5 + 2 * s .args .n) 0x51
+second s = at-cell (wordsOf (s .args .state .now)) (5 + 2 * s .args .n) 0x51
 
 -- the packet, with so much of it left to store
 abbrev Storing : tie.Start → List ℕ → List ℕ → ℕ → Type 0
-Storing s left out end = Open 0x02 (s .args .n) (stageParameters (s .args .state .now) (s .args .n)) (s .args .out .now) (s .args .at) left out end
+Storing s left out end = Open 0x02 (s .args .n) (stageParameters (wordsOf (s .args .state .now)) (s .args .n)) (s .args .out .now) (s .args .at) left out end
 
 start : (s : tie.Start) → Storing s (first s ++ (second s ++ [])) (s .args .out .now) (s .args .at + 2)
 start s =
     let a = s .args in
-    opened 0x02 (s .args .n) (stageParameters (a .state .now) (s .args .n)) (a .out .now) (a .at) (omega (arith, s .pre .1 .1 .1 .1, ap length (stage-words (a .state .now) (s .args .n))))
+    opened 0x02 (s .args .n) (stageParameters (wordsOf (a .state .now)) (s .args .n)) (a .out .now) (a .at) (omega (arith, s .pre .1 .1 .1 .1, ap length (stage-words (wordsOf (a .state .now)) (s .args .n))))
 
 mul-t7 : tie.Need-mul-t7
 mul-t7 c = search needs
@@ -65,7 +66,7 @@ close-packet-requires : tie.Need-close-packet-requires
 close-packet-requires c κs =
     let s = c .before .before .before .before .before .before .before .before .before .before .before in
     let e = after2 (c .before .before .before) in
-    (s .pre .1 .1 .0, (head-order e, (head-near e (stage-few (s .args .state .now) (s .args .n)), (omega arith, (omega arith, head-room e)))))
+    (s .pre .1 .1 .0, (head-order e, (head-near e (stage-few (wordsOf (s .args .state .now)) (s .args .n)), (omega arith, (omega arith, head-room e)))))
 
 same-length : tie.Need-same-length
 same-length c = search needs
@@ -74,7 +75,7 @@ returns : tie.Need-returns
 returns c =
     let k = c .before .before in
     let s = k .before .before .before .before .before .before .before .before .before .before .before .before in
-    rw (stage-words (s .args .state .now) (s .args .n)) (closed (after2 (k .before .before .before .before)) (k .close-packet .ensures .0) (k .close-packet .ensures .1))
+    rw (stage-words (wordsOf (s .args .state .now)) (s .args .n)) (closed (after2 (k .before .before .before .before)) (k .close-packet .ensures .0) (k .close-packet .ensures .1))
 
 pub emit-stage-spec : {M : Type 1} → statement M
 emit-stage-spec =

@@ -6,31 +6,32 @@ use Prim.Native.Nat.{ℕ, _+_}
 use native.Mathlib.Omega.{arith}
 use borrow.Author.Needs.{needs}
 use lib.ListN.{length}
+use Rattle.meaning.specs.Words.{wordsOf}
 use Rattle.emitter.proofs.Packets.{Open, opened, room-parameter, stored, head-order, head-near, head-room, closed, at-cell, targetParameters, target-words, target-few}
 use Rattle.emitter.proofs.emit_target.Statement.{statement}
 use Rattle.emitter.proofs.emit_target.Tie as tie
 
 -- the parameters of the cells
 abbrev first : tie.Start → List ℕ
-first s = at-cell (s .args .state .now) 0 0x3F
+first s = at-cell (wordsOf (s .args .state .now)) 0 0x3F
 
 abbrev second : tie.Start → List ℕ
-second s = at-cell (s .args .state .now) 1 0x50
+second s = at-cell (wordsOf (s .args .state .now)) 1 0x50
 
 abbrev third : tie.Start → List ℕ
-third s = at-cell (s .args .state .now) 2 0x51
+third s = at-cell (wordsOf (s .args .state .now)) 2 0x51
 
 abbrev fourth : tie.Start → List ℕ
-fourth s = at-cell (s .args .state .now) 3 0x52
+fourth s = at-cell (wordsOf (s .args .state .now)) 3 0x52
 
 -- the packet, with so much of it left to store
 abbrev Storing : tie.Start → List ℕ → List ℕ → ℕ → Type 0
-Storing s left out end = Open 0x01 0x00 (targetParameters (s .args .state .now)) (s .args .out .now) (s .args .at) left out end
+Storing s left out end = Open 0x01 0x00 (targetParameters (wordsOf (s .args .state .now))) (s .args .out .now) (s .args .at) left out end
 
 start : (s : tie.Start) → Storing s (first s ++ (second s ++ (third s ++ (fourth s ++ [])))) (s .args .out .now) (s .args .at + 2)
 start s =
     let a = s .args in
-    opened 0x01 0x00 (targetParameters (a .state .now)) (a .out .now) (a .at) (omega (arith, s .pre .1 .1 .1, ap length (target-words (a .state .now))))
+    opened 0x01 0x00 (targetParameters (wordsOf (a .state .now))) (a .out .now) (a .at) (omega (arith, s .pre .1 .1 .1, ap length (target-words (wordsOf (a .state .now)))))
 
 add-emit-parameter : tie.Need-add-emit-parameter
 add-emit-parameter c = search needs
@@ -72,7 +73,7 @@ close-packet-requires : tie.Need-close-packet-requires
 close-packet-requires c κs =
     let s = c .before .before .before .before .before .before .before .before .before .before .before .before .before .before .before .before .before .before .before in
     let e = after4 (c .before .before .before) in
-    (s .pre .1 .1 .0, (head-order e, (head-near e (target-few (s .args .state .now)), (omega arith, (omega arith, head-room e)))))
+    (s .pre .1 .1 .0, (head-order e, (head-near e (target-few (wordsOf (s .args .state .now))), (omega arith, (omega arith, head-room e)))))
 
 same-length : tie.Need-same-length
 same-length c = search needs
@@ -81,7 +82,7 @@ returns : tie.Need-returns
 returns c =
     let k = c .before .before in
     let s = k .before .before .before .before .before .before .before .before .before .before .before .before .before .before .before .before .before .before .before .before in
-    rw (target-words (s .args .state .now)) (closed (after4 (k .before .before .before .before)) (k .close-packet .ensures .0) (k .close-packet .ensures .1))
+    rw (target-words (wordsOf (s .args .state .now))) (closed (after4 (k .before .before .before .before)) (k .close-packet .ensures .0) (k .close-packet .ensures .1))
 
 pub emit-target-spec : {M : Type 1} → statement M
 emit-target-spec =

@@ -1,8 +1,8 @@
 -- The marks of the group's cells are counted, and header and setting come with the first.
 -- Assumes nothing.
 use mathlib.Core.Path.{_≡_, ap, _∙_}
-use Prim.Native.Nat.{_-_}
 use native.Mathlib.Omega.{arith}
+use Rattle.meaning.specs.Words.{wordsOf}
 use Rattle.states.specs.Marks.{markedIn}
 use Rattle.emitter.specs.Closed.{packetNeed}
 use Rattle.emitter.proofs.Counted.{marked-few, need-none, need-some}
@@ -17,14 +17,14 @@ marked-between-requires : tie.Need-marked-between-requires
 marked-between-requires c κs = search needs
 
 -- what was counted
-counted : (c : tie.After-marked-between) → let a = c .before .before .args in c .marked-between .result ≡ markedIn (a .state .now) (a .first) (a .rows)
-counted c = let a = c .before .before .args in c .marked-between .ensures ∙ ap (markedIn (a .state .now) (a .first)) (omega arith)
+counted : (c : tie.After-marked-between) → let a = c .before .before .args in c .marked-between .result ≡ markedIn (wordsOf (a .state .now)) (a .first) (a .rows)
+counted c = let a = c .before .before .args in c .marked-between .ensures ∙ ap (markedIn (wordsOf (a .state .now)) (a .first)) (omega arith)
 
 returns : tie.Need-returns
 returns c = need-none (c .before .marked-between .result) (c .if1 .taken) ∙ ap packetNeed (counted (c .before))
 
 add-result : tie.Need-add-result
-add-result c = let a = c .before .before .before .args in omega (arith, counted (c .before), marked-few (a .state .now) (a .first) (a .rows))
+add-result c = let a = c .before .before .before .args in omega (arith, counted (c .before), marked-few (wordsOf (a .state .now)) (a .first) (a .rows))
 
 returns-2 : tie.Need-returns-2
 returns-2 c = need-some (c .before .marked-between .result) (c .if1 .left) ∙ ap packetNeed (counted (c .before))

@@ -1,11 +1,13 @@
 -- The words of the target, of the stages, of the samples and of the video cells.
 -- Assumes nothing.
 use mathlib.Core.Path.{_≡_}
-use Prim.Native.Nat.{_+_, _*_}
+use Prim.Native.Nat.{_+_, _*_, _≤_}
 use native.Mathlib.Omega.{arith}
 use lib.ListN.{length}
+use Rattle.meaning.specs.Words.{wordsOf}
 use Rattle.meaning.specs.Writer.{written}
 use Rattle.meaning.proofs.Writing.{at-most-184}
+use Rattle.emitter.specs.Emitted.{words3D}
 use Rattle.emitter.proofs.Emitted.{written-length}
 use Rattle.emitter.proofs.Counted.{length-3D, length-video}
 use borrow.Author.Needs.{needs}
@@ -24,40 +26,41 @@ series-need-requires-3 c κs = search needs
 marked-between-requires : tie.Need-marked-between-requires
 marked-between-requires c κs = search needs
 
--- the sum is the number of words
-sum : (c : tie.After-marked-between) →
-    let video = c .marked-between .result in
-    let samples = c .before .series-need3 .result in
-    let stages = c .before .before .series-need2 .result in
-    let target = c .before .before .before .series-need .result in
-    target + stages + samples + 2 * video ≡ length (written (c .before .before .before .before .before .args .state .now))
-sum c =
-    let st = c .before .before .before .before .before .args .state .now in
+-- the sums are the numbers of words: of the 3D packets,
+sum-3D : (c : tie.After-series-need3) →
+    c .before .before .series-need .result + c .before .series-need2 .result + c .series-need3 .result
+    ≡ length (words3D (wordsOf (c .before .before .before .before .args .state .now)))
+sum-3D c =
     omega (
       arith,
-      written-length st,
-      length-3D st,
-      length-video st,
-      c .marked-between .ensures,
-      c .before .series-need3 .ensures,
-      c .before .before .series-need2 .ensures,
-      c .before .before .before .series-need .ensures,
+      length-3D (wordsOf (c .before .before .before .before .args .state .now)),
+      c .series-need3 .ensures,
+      c .before .series-need2 .ensures,
+      c .before .before .series-need .ensures,
     )
 
+-- and of all, of which there are few
+sum : (c : tie.After-marked-between) →
+    let st = wordsOf (c .before .before .before .before .before .args .state .now) in
+    (length (words3D st) + 2 * c .marked-between .result ≡ length (written st)) × (length (written st) ≤ 184)
+sum c =
+    let st = wordsOf (c .before .before .before .before .before .args .state .now) in
+    (omega (arith, written-length st, length-video st, c .marked-between .ensures), at-most-184 st)
+
 mul-video : tie.Need-mul-video
-mul-video c = omega (arith, sum c, at-most-184 (c .before .before .before .before .before .args .state .now))
+mul-video c = omega (arith, sum c)
 
-add-result : tie.Need-add-result
-add-result c = omega (arith, sum c, at-most-184 (c .before .before .before .before .before .args .state .now))
+add-in-3d : tie.Need-add-in-3d
+add-in-3d c = omega (arith, sum-3D (c .before), sum c)
 
-add-result-2 : tie.Need-add-result-2
-add-result-2 c = omega (arith, sum c, at-most-184 (c .before .before .before .before .before .args .state .now))
+add-in-3d-2 : tie.Need-add-in-3d-2
+add-in-3d-2 c = omega (arith, sum-3D (c .before), sum c)
 
-add-result-3 : tie.Need-add-result-3
-add-result-3 c = omega (arith, sum c, at-most-184 (c .before .before .before .before .before .args .state .now))
+add-t7 : tie.Need-add-t7
+add-t7 c = omega (arith, sum-3D (c .before), sum c)
 
 returns : tie.Need-returns
-returns c = sum c
+returns c = (sum-3D (c .before), omega (arith, sum-3D (c .before), sum c))
 
 pub needed-spec : {M : Type 1} → statement M
 needed-spec =
@@ -68,7 +71,7 @@ needed-spec =
     series-need-requires-3
     marked-between-requires
     mul-video
-    add-result
-    add-result-2
-    add-result-3
+    add-in-3d
+    add-in-3d-2
+    add-t7
     returns)

@@ -4,6 +4,7 @@ use mathlib.Core.Path.{_≡_}
 use Prim.Native.Nat.{ℕ, _+_, _*_, _-_, _≤_, _<_}
 use native.Mathlib.Omega.{arith}
 use native.Mathlib.Nat.{mul-le-mul-left, mul-suc}
+use Rattle.meaning.specs.Words.{wordsOf}
 use Rattle.meaning.specs.Registers.{cells}
 use Rattle.states.specs.Marks.{markedIn}
 use Rattle.emitter.specs.Closed.{total, needOn}
@@ -13,7 +14,7 @@ use Rattle.emitter.proofs.series_need.Tie as tie
 
 abbrev Inv-loop : tie.InvT-loop
 Inv-loop state first rows count need₀ n₀ need n =
-    (n ≤ count) × (need ≤ 103 * n) × (need + total (needOn state first rows) n (count - n) ≡ total (needOn state first rows) 0 count)
+    (n ≤ count) × (need ≤ 103 * n) × (need + total (needOn (wordsOf state) first rows) n (count - n) ≡ total (needOn (wordsOf state) first rows) 0 count)
 
 abbrev μ-loop : tie.MeasureT-loop
 μ-loop state first rows count need₀ n₀ need n = count - n
@@ -46,7 +47,7 @@ near c =
     let l = c .before .before in
     let a = l .before .before .args in
     let first = a .first + a .rows * l .loop .n in
-    omega (arith, c .group-need .ensures, need-few (markedIn (a .state .now) first (a .rows)), marked-few (a .state .now) first (a .rows), here (c .before))
+    omega (arith, c .group-need .ensures, need-few (markedIn (wordsOf (a .state .now)) first (a .rows)), marked-few (wordsOf (a .state .now)) first (a .rows), here (c .before))
 
 add-need : tie.Need-add-need Inv-loop μ-loop
 add-need c = omega (arith, near c)
@@ -61,14 +62,14 @@ loop-again : tie.Need-loop-again Inv-loop μ-loop
 loop-again c =
     let l = c .before .before in
     let a = l .before .before .args in
-    let f = needOn (a .state .now) (a .first) (a .rows) in
+    let f = needOn (wordsOf (a .state .now)) (a .first) (a .rows) in
     (omega arith, omega (arith, near c), omega (arith, c .group-need .ensures, total-next f (l .loop .n) (a .count) (omega arith)))
 
 returns : tie.Need-returns Inv-loop μ-loop
 returns c =
     let l = c .before in
     let a = l .before .before .args in
-    omega (arith, total-none (needOn (a .state .now) (a .first) (a .rows)) (l .loop .n) (a .count - l .loop .n) (omega arith))
+    omega (arith, total-none (needOn (wordsOf (a .state .now)) (a .first) (a .rows)) (l .loop .n) (a .count - l .loop .n) (omega arith))
 
 pub series-need-spec : {M : Type 1} → statement M
 series-need-spec =

@@ -1,97 +1,69 @@
--- The invariant: the spans from i on cover the address exactly if all do.
+-- The loop goes from grant to grant up to the last, which is asked behind it. What is left to ask from here on decides for all.
 -- Assumes nothing.
-use mathlib.Core.Path.{_≡_, refl, sym, ap, _∙_}
-use mathlib.Core.Bool.{Bool, true, false, _&&_, _||_}
-use mathlib.Core.List.{List, [], _∷_}
-use Prim.Native.Nat.{ℕ, _+_, _-_, _≤_, _<_}
+use mathlib.Core.Path.{_≡_, refl, _∙_}
+use Prim.Native.Nat.{suc, _-_, _≤_, _<_}
 use native.Mathlib.Omega.{arith}
-use lib.Dec.{leb}
-use lib.ListN.{length, getD, drop, length-drop}
-use borrow.Author.Needs.{needs}
-use Rattle.laws.proofs.Rest.{rest2}
-use Rattle.grants.specs.Spans.{coveredBy}
+use Rattle.meaning.specs.Grants.{mostGrants}
+use Rattle.grants.specs.Kept.{coveredFrom}
+use Rattle.grants.proofs.Asking.{none, hit, missed, at-last, whole}
 use Rattle.grants.proofs.covered.Statement.{statement}
 use Rattle.grants.proofs.covered.Tie as tie
+use Rattle.grants.proofs.covered.Reads as reads
+use Rattle.grants.proofs.covered.Lts as lts
+use Rattle.grants.proofs.covers.Reads as covers-reads
 
 abbrev Inv-loop : tie.InvT-loop
-Inv-loop spans address i₀ i = (i ≤ length spans) × (coveredBy (drop i spans) address ≡ coveredBy spans address)
+Inv-loop starts lasts address last i₀ i =
+    (i ≤ last) × (last < mostGrants) × (coveredFrom starts lasts i (suc last - i) address ≡ coveredFrom starts lasts i₀ (suc last - i₀) address)
 
 abbrev μ-loop : tie.MeasureT-loop
-μ-loop spans address i₀ i = length spans - i
+μ-loop starts lasts address last i₀ i = last - i
 
--- a start alone covers nothing
-short : (l : List ℕ) (a : ℕ) → length l < 2 → false ≡ coveredBy l a
-unfolding coveredBy
-short [] a h = refl
-short (start ∷ []) a h = refl
-short (start ∷ width ∷ l) a h = absurd (omega arith)
-
-module _ (l : List ℕ) (i a : ℕ) (inv : coveredBy (drop i l) a ≡ coveredBy l a) where
-  module _ (h : i + 2 ≤ length l) (r : Bool) (e : r ≡ (leb (getD l i 0) a && leb (a - getD l i 0) (getD l (i + 1) 0))) where
-    -- the next span covers the address, or those after it do
-    turn : (r || coveredBy (drop (i + 2) l) a) ≡ coveredBy l a
-    unfolding coveredBy
-    turn = rw e (sym (ap (λ (m : List ℕ). coveredBy m a) (rest2 l i h)) ∙ inv)
-
-    hit : r ≡ true → true ≡ coveredBy l a
-    hit t = rw t at turn
-
-    miss : r ≡ false → coveredBy (drop (i + 2) l) a ≡ coveredBy l a
-    miss t = rw t at turn
-
-  -- no span is left
-  none : length l < i + 2 → false ≡ coveredBy l a
-  none h = short (drop i l) a (simp length-drop (omega arith)) ∙ inv
-
-loop-holds : tie.Need-loop-holds Inv-loop μ-loop
-loop-holds c = (omega arith, refl)
-
-add-loop : tie.Need-add-loop Inv-loop μ-loop
-add-loop c = omega arith
-
-mul-in-span : tie.Need-mul-in-span Inv-loop μ-loop
-mul-in-span c = omega arith
-
-shared-slice-read-in-span : tie.Need-shared-slice-read-in-span Inv-loop μ-loop
-shared-slice-read-in-span c = omega arith
-
-add-in-span : tie.Need-add-in-span Inv-loop μ-loop
-add-in-span c = omega arith
-
-mul-in-span-2 : tie.Need-mul-in-span-2 Inv-loop μ-loop
-mul-in-span-2 c = omega arith
-
-shared-slice-read-in-span-2 : tie.Need-shared-slice-read-in-span-2 Inv-loop μ-loop
-shared-slice-read-in-span-2 c = omega arith
-
-in-span-requires : tie.Need-in-span-requires Inv-loop μ-loop
-in-span-requires c κs = search needs
-
+-- src/lib.rt:53:9
 returns : tie.Need-returns Inv-loop μ-loop
-returns c =
-    let l = c .before .before .before .before .before in
-    let s = l .before .before .args in
-    hit (s .spans .now) (l .loop .i) (s .address) (l .loop .inv .1) (omega arith) (c .before .in-span .result) (c .before .in-span .ensures) (c .if1 .taken)
+returns c = none _ _ _ _ _ (omega arith)
 
+-- src/lib.rt:55:16
+sub-last : tie.Need-sub-last Inv-loop μ-loop
+sub-last c = omega arith
+
+-- src/lib.rt:57:5
+loop-holds : tie.Need-loop-holds Inv-loop μ-loop
+loop-holds c = (omega arith, omega arith, refl)
+
+-- src/lib.rt:58:12
+covers-requires : tie.Need-covers-requires Inv-loop μ-loop
+covers-requires c κs = omega arith
+
+-- src/lib.rt:59:13
+returns-2 : tie.Need-returns-2 Inv-loop μ-loop
+returns-2 c =
+    let l = c .before .before .before in
+    hit _ _ _ (omega arith) (c .before .covers .ensures) (c .if2 .taken) ∙ l .loop .inv .2 ∙ whole _ _ _ _ _ (omega arith)
+
+-- src/lib.rt:61:9
 add-i : tie.Need-add-i Inv-loop μ-loop
 add-i c = omega arith
 
+-- src/lib.rt:57:5
 loop-less : tie.Need-loop-less Inv-loop μ-loop
 loop-less c = omega arith
 
+-- src/lib.rt:57:5
 loop-again : tie.Need-loop-again Inv-loop μ-loop
 loop-again c =
-    let l = c .before .before .before .before .before in
-    let s = l .before .before .args in (
-      omega arith,
-      miss (s .spans .now) (l .loop .i) (s .address) (l .loop .inv .1) (omega arith) (c .before .in-span .result) (c .before .in-span .ensures) (c .if1 .left),
-    )
+    let l = c .before .before .before in
+    (omega arith, l .loop .inv .1, missed _ _ _ (omega arith) (c .before .covers .ensures) (c .if2 .left) ∙ l .loop .inv .2)
 
-returns-2 : tie.Need-returns-2 Inv-loop μ-loop
-returns-2 c =
-    let l = c .before in
-    let s = l .before .before .args in
-    none (s .spans .now) (l .loop .i) (s .address) (l .loop .inv .1) (omega arith)
+-- src/lib.rt:63:5
+covers-requires-2 : tie.Need-covers-requires-2 Inv-loop μ-loop
+covers-requires-2 c κs = omega arith
+
+-- src/lib.rt:48:1
+returns-3 : tie.Need-returns-3 Inv-loop μ-loop
+returns-3 c =
+    let l = c .before .before in
+    at-last _ _ _ (l .loop .i) _ (omega arith) (c .covers2 .ensures) ∙ l .loop .inv .2 ∙ whole _ _ _ _ _ (omega arith)
 
 pub covered-spec : {M : Type 1} → statement M
 covered-spec =
@@ -99,16 +71,13 @@ covered-spec =
     (tie.spec
     Inv-loop
     μ-loop
-    loop-holds
-    add-loop
-    mul-in-span
-    shared-slice-read-in-span
-    add-in-span
-    mul-in-span-2
-    shared-slice-read-in-span-2
-    in-span-requires
     returns
+    sub-last
+    loop-holds
+    covers-requires
+    returns-2
     add-i
     loop-less
     loop-again
-    returns-2)
+    covers-requires-2
+    returns-3)

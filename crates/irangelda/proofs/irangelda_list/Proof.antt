@@ -7,7 +7,7 @@ use lib.ListN.{length}
 use Rattle.laws.proofs.Arms.{told-true, told-false}
 use Rattle.meaning.specs.Words.{wordsOf}
 use Rattle.meaning.specs.Calls.{wordBufferFine}
-use Rattle.irangelda.proofs.Enough.{list-place}
+use Rattle.irangelda.proofs.Places.{list-place}
 use Rattle.irangelda.proofs.Buffers.{list-13, list-answered}
 use Rattle.irangelda.proofs.irangelda_list.Statement.{statement}
 use Rattle.irangelda.proofs.irangelda_list.Tie as tie

@@ -5,7 +5,7 @@ use borrow.Author.Needs.{needs}
 use lib.ListN.{length}
 use Rattle.laws.proofs.Arms.{told-true, told-false}
 use Rattle.meaning.specs.Words.{wordsOf}
-use Rattle.irangelda.proofs.Enough.{write-place}
+use Rattle.irangelda.proofs.Places.{write-place}
 use Rattle.irangelda.proofs.Buffers.{write-13, write-answered}
 use Rattle.irangelda.proofs.irangelda_write.Statement.{statement}
 use Rattle.irangelda.proofs.irangelda_write.Tie as tie

@@ -7,6 +7,7 @@ use lib.ListN.{length}
 use borrow.Author.Needs.{needs}
 use Rattle.laws.specs.Lists.{from}
 use Rattle.laws.proofs.Arms.{told-true, told-false}
+use Rattle.meaning.specs.Words.{wordsOf}
 use Rattle.meaning.specs.Lister.{digit, hex, listing}
 use Rattle.lister.specs.Lines.{digitPairs}
 use Rattle.lister.proofs.Lines.{few}
@@ -21,7 +22,7 @@ returns : tie.Need-returns
 returns c =
     let w = c .before in
     let s = w .before .before .before in
-    bad-state (s .args .state .now) (s .args .out .now) (told-false (w .well-formed .ensures) (c .if1 .taken))
+    bad-state (wordsOf (s .args .state .now)) (s .args .out .now) (told-false (w .well-formed .ensures) (c .if1 .taken))
 
 marked-between-requires : tie.Need-marked-between-requires
 marked-between-requires c κs = (omega arith, whole _ (c .before .well-formed .ensures) (c .if1 .left))
@@ -31,7 +32,7 @@ marked-between-requires-2 c κs = (omega arith, whole _ (c .before .before .well
 
 add-decimal-length : tie.Need-add-decimal-length
 add-decimal-length c =
-    let few-here = few (c .before .before .before .before .before .before .args .state .now) in
+    let few-here = few (wordsOf (c .before .before .before .before .before .before .args .state .now)) in
     omega arith
 
 decimal-length-requires : tie.Need-decimal-length-requires
@@ -42,22 +43,22 @@ add-first-line c = omega arith
 
 mul-first-video : tie.Need-mul-first-video
 mul-first-video c =
-    let few-here = few (c .before .before .before .before .before .before .before .args .state .now) in
+    let few-here = few (wordsOf (c .before .before .before .before .before .before .before .args .state .now)) in
     omega arith
 
 add-first-video : tie.Need-add-first-video
 add-first-video c =
-    let few-here = few (c .before .before .before .before .before .before .before .args .state .now) in
+    let few-here = few (wordsOf (c .before .before .before .before .before .before .before .args .state .now)) in
     omega arith
 
 mul-need : tie.Need-mul-need
 mul-need c =
-    let few-here = few (c .before .before .before .before .before .before .before .args .state .now) in
+    let few-here = few (wordsOf (c .before .before .before .before .before .before .before .args .state .now)) in
     omega arith
 
 add-need : tie.Need-add-need
 add-need c =
-    let few-here = few (c .before .before .before .before .before .before .before .args .state .now) in
+    let few-here = few (wordsOf (c .before .before .before .before .before .before .before .args .state .now)) in
     omega arith
 
 returns-2 : tie.Need-returns-2
@@ -67,24 +68,25 @@ returns-2 c =
     let e = m .before .before in
     let w = e .before in
     let s = w .before .before .before in
-    let need = listing-length (s .args .state .now) _ _ _ (m .before .marked-between .ensures) (m .marked-between2 .ensures) (d .decimal-length .ensures .0) in
-    no-room (s .args .state .now) (s .args .out .now) (told-true (w .well-formed .ensures) (e .if1 .left)) (omega arith)
+    let st = wordsOf (s .args .state .now) in
+    let need = listing-length st _ _ _ (m .before .marked-between .ensures) (m .marked-between2 .ensures) (d .decimal-length .ensures .0) in
+    no-room st (s .args .out .now) (told-true (w .well-formed .ensures) (e .if1 .left)) (omega arith)
 
 add-put-head : tie.Need-add-put-head
 add-put-head c =
-    let few-here = few (c .before .before .before .before .before .before .before .before .before .args .state .now) in
+    let few-here = few (wordsOf (c .before .before .before .before .before .before .before .before .before .args .state .now)) in
     omega arith
 
 put-head-requires : tie.Need-put-head-requires
 put-head-requires c κs =
-    let few-here = few (c .before .before .before .before .before .before .before .before .before .args .state .now) in
+    let few-here = few (wordsOf (c .before .before .before .before .before .before .before .before .before .args .state .now)) in
     (omega arith, (c .before .before .decimal-length .ensures .0, omega arith))
 
 put-lines-3d-requires : tie.Need-put-lines-3d-requires
 unfolding digitPairs hex digit from
 put-lines-3d-requires c κs =
     let e = c .before .before .before .before .before .before .before .before .before .before in
-    (refl, (whole _ (e .before .well-formed .ensures) (e .if1 .left), omega arith))
+    (refl, (whole _ (e .before .well-formed .ensures) (e .if1 .left), (omega arith, omega arith)))
 
 put-lines-video-requires : tie.Need-put-lines-video-requires
 unfolding digitPairs hex digit from
@@ -105,7 +107,7 @@ returns-3 c =
     let e = m .before .before in
     let w = e .before in
     let s = w .before .before .before in
-    let st = s .args .state .now in
+    let st = wordsOf (s .args .state .now) in
     let out = s .args .out .now in
     let in-3D = m .before .marked-between .ensures in
     let in-video = m .marked-between2 .ensures in

@@ -1,50 +1,50 @@
--- The invariant is that of the 3D lines, for other cells and another line.
+-- The invariant is that of the 3D lines, for other cells and another line; the marked cells that are left are counted in it alone.
 -- Assumes nothing.
 use mathlib.Core.Logic.{inl, inr}
-use Prim.Native.Nat.{_-_}
+use Prim.Native.Nat.{_+_, _-_, _≤_}
 use native.Mathlib.Omega.{arith}
+use lib.ListN.{length}
+use Rattle.meaning.specs.Words.{wordsOf}
+use Rattle.states.specs.Marks.{markedIn}
+use Rattle.states.proofs.Counted.{marked-none}
 use Rattle.lister.specs.Lines.{cellLineVideo}
 use Rattle.lister.proofs.Listing.{wide-video}
-use Rattle.lister.proofs.Lines.{Going, begin, passed, fits, stored-line, ended}
+use Rattle.lister.proofs.Lines.{Going, begin, counted, passed, some, fits, stored-line, ended}
 use Rattle.lister.proofs.put_lines_video.Statement.{statement}
 use Rattle.lister.proofs.put_lines_video.Tie as tie
 
 abbrev Inv-loop : tie.InvT-loop
-Inv-loop pairs state out₀ start at₀ c₀ out at c = Going cellLineVideo 22 state 84 101 out₀ start out at c
+Inv-loop pairs state out₀ start at₀ c₀ out at c =
+    (c ≤ 101) × Going cellLineVideo 22 (wordsOf state) 84 101 out₀ start out (markedIn (wordsOf state) c (101 - c)) at c
 
 abbrev μ-loop : tie.MeasureT-loop
 μ-loop pairs state out₀ start at₀ c₀ out at c = 101 - c
 
 loop-holds : tie.Need-loop-holds Inv-loop μ-loop
-loop-holds c = begin (omega arith)
+loop-holds c = (omega arith, begin (omega arith))
 
-add-if1 : tie.Need-add-if1 Inv-loop μ-loop
-add-if1 c = omega arith
+mark-requires : tie.Need-mark-requires Inv-loop μ-loop
+mark-requires c κs = (omega arith, omega arith)
 
-mul-if1 : tie.Need-mul-if1 Inv-loop μ-loop
-mul-if1 c = omega arith
+value-requires : tie.Need-value-requires Inv-loop μ-loop
+value-requires c κs = (omega arith, omega arith)
 
-shared-slice-read-if1 : tie.Need-shared-slice-read-if1 Inv-loop μ-loop
-shared-slice-read-if1 c = omega arith
-
-mul-put-line-video : tie.Need-mul-put-line-video Inv-loop μ-loop
-mul-put-line-video c = omega arith
-
-shared-slice-read-put-line-video : tie.Need-shared-slice-read-put-line-video Inv-loop μ-loop
-shared-slice-read-put-line-video c = omega arith
+-- where a cell is marked, there is room for its line
+room : (c : tie.Then1 Inv-loop μ-loop) → let l = c .before .before .before in l .loop .at + 22 ≤ length (l .loop .out)
+room c =
+    let m = c .before in
+    let l = m .before .before in
+    let g = l .loop .inv .1 in
+    fits g (some g (omega arith) (m .mark .ensures) (c .if1 .taken)) (l .before .before .before .pre .1 .1)
 
 put-line-video-requires : tie.Need-put-line-video-requires Inv-loop μ-loop
 put-line-video-requires c κs =
     let l = c .before .before .before .before .before in
     let s = l .before .before .before in
-    (s .pre .0, (omega arith, (omega arith, fits (l .loop .inv) (omega arith) (c .before .before .if1 .taken) (s .pre .1 .1))))
+    (s .pre .0, (omega arith, (omega arith, room (c .before .before))))
 
 add-at : tie.Need-add-at Inv-loop μ-loop
-add-at c =
-    let t = c .before .before .before .before .before in
-    let l = t .before .before .before in
-    let s = l .before .before .before in
-    omega (arith, fits (l .loop .inv) (omega arith) (t .if1 .taken) (s .pre .1 .1))
+add-at c = omega (arith, room (c .before .before .before .before .before))
 
 add-c : tie.Need-add-c Inv-loop μ-loop
 add-c c = omega arith
@@ -54,17 +54,21 @@ loop-less c = omega arith
 
 loop-again : tie.Need-loop-again Inv-loop μ-loop
 loop-again c =
-    let l = c .before .before .before in
+    let m = c .before in
+    let g = m .before .before .loop .inv .1 in
     elim (c .if1 .came) [
-      | inl w ↦ rw (w .6, w .7) (stored-line (l .loop .inv) (omega arith) (w .0 .taken) _ (w .3 .ensures) (wide-video _ _))
-      | inr w ↦ rw (w .1, w .2) (passed (l .loop .inv) (omega arith) (w .0 .left))
+      | inl w ↦ (omega arith, rw (w .6, w .7) (counted (stored-line g (omega arith) (m .mark .ensures) (w .0 .taken) (w .2 .ensures) _ (w .3 .ensures) (wide-video _ _))))
+      | inr w ↦ (omega arith, rw (w .1, w .2) (counted (passed g (omega arith) (m .mark .ensures) (w .0 .left))))
     ]
 
 same-length : tie.Need-same-length Inv-loop μ-loop
-same-length c = c .before .loop .inv .same
+same-length c = c .before .loop .inv .1 .same
 
 returns : tie.Need-returns Inv-loop μ-loop
-returns c = ended (c .before .loop .inv) (omega arith)
+returns c =
+    let l = c .before in
+    let st = wordsOf (l .before .before .before .args .state .now) in
+    ended (l .loop .inv .1) (omega (arith, marked-none st (l .loop .c) (101 - l .loop .c) (omega arith)))
 
 pub put-lines-video-spec : {M : Type 1} → statement M
 put-lines-video-spec =
@@ -73,11 +77,8 @@ put-lines-video-spec =
     Inv-loop
     μ-loop
     loop-holds
-    add-if1
-    mul-if1
-    shared-slice-read-if1
-    mul-put-line-video
-    shared-slice-read-put-line-video
+    mark-requires
+    value-requires
     put-line-video-requires
     add-at
     add-c

@@ -1,78 +1,72 @@
-use Rattle.packets.proofs.Packets.{all-read, read-stop, read-ahead, read-inside, read-on}
-use Rattle.packets.specs.Packets.{packetsFrom}
-use Rattle.bodies.proofs.Bodies.{as-answer, as-state}
-use Rattle.grants.specs.Spans.{held}
-use Rattle.meaning.specs.State.{stateWords}
-use Rattle.meaning.specs.declared.Kind.the-variants.{Setting}
-use lib.ListN.{length, drop}
-use Prim.Native.Nat.{_-_, _≤_}
-use mathlib.Core.Path.{_≡_, refl, sym, _∙_}
+-- Packet after packet: to read on from here is to read the whole.
+-- Assumes nothing.
+use mathlib.Core.Path.{_≡_, refl}
+use mathlib.Core.List.{List}
+use Prim.Native.Nat.{ℕ, _-_, _/_, _<_}
 use native.Mathlib.Omega.{arith}
+use lib.ListN.{length}
+use Rattle.meaning.specs.declared.Answer.{Answer}
+use Rattle.meaning.specs.declared.Kind.the-variants.{Setting}
+use Rattle.meaning.specs.Words.{wordsOf}
+use Rattle.meaning.specs.Grants.{Terms}
+use Rattle.meaning.proofs.Bytes.{length-words}
+use Rattle.grants.specs.Kept.{Keeps}
+use Rattle.bodies.proofs.Bodies.{as-answer, as-state}
+use Rattle.packets.specs.Packets.{packetsFrom}
+use Rattle.packets.proofs.Packets.{ahead, all-ahead, all-read, not-whole, read-stop, read-on}
 use Rattle.packets.proofs.read_packets.Statement.{statement}
 use Rattle.packets.proofs.read_packets.Tie as tie
-use Rattle.packets.proofs.read_packets.Reads as reads
-use Rattle.packets.proofs.read_packets.Lts as lts
-use Rattle.packets.proofs.read_packet.Reads as read-packet-reads
 
 abbrev Inv-loop : tie.InvT-loop
-Inv-loop words upto targets firsts seconds state₀ i₀ state i =
-    (i ≤ length words) × (upto ≤ length words) × (length state ≡ stateWords)
-    × (packetsFrom (held targets firsts seconds) upto i Setting 0 (drop i words) state ≡ packetsFrom (held targets firsts seconds) upto 0 Setting 0 words state₀)
+Inv-loop batch starts lasts bounds state₀ words at₀ state at =
+    (g : Terms) → Keeps g starts lasts bounds → ahead g at (wordsOf batch) state ≡ packetsFrom g 0 Setting 0 (wordsOf batch) state₀
 
 abbrev μ-loop : tie.MeasureT-loop
-μ-loop words upto targets firsts seconds state₀ i₀ state i = length words - i
+μ-loop batch starts lasts bounds state₀ words at₀ state at =
+    words - at
 
--- src/lib.rt:201:5
+-- a header stands before the end
+inside : (r : tie.After-read-packet Inv-loop μ-loop) → let l = r .before .before .before in l .loop .at < length (wordsOf (l .before .before .args .batch .now))
+inside r = let l = r .before .before .before in omega (arith, length-words (l .before .before .args .batch .now))
+
+-- the end is told in whole words of the buffer
+ended : (b : List ℕ) (r at : ℕ) {a : Answer} → at ≡ length (wordsOf b) → record { reason = r; place = at } ≡ a → record { reason = r; place = length b / 4 } ≡ a
+ended b r at e f = rw (e, length-words b) at f
+
 loop-holds : tie.Need-loop-holds Inv-loop μ-loop
-loop-holds c = let s = c .before .before .before .before .before in (omega arith, s .pre .0, s .pre .1, refl)
+loop-holds c = λ g k. all-ahead g _ _
 
--- src/lib.rt:202:13
 read-packet-requires : tie.Need-read-packet-requires Inv-loop μ-loop
-read-packet-requires c κs = let l = c .before .before in (omega arith, l .loop .inv .2)
+read-packet-requires c κs = (omega arith, c .before .before .before .before .pre)
 
--- src/lib.rt:204:13
-same-length : tie.Need-same-length Inv-loop μ-loop
-same-length c = let k = c .before .before .before .before in let l = k .before .before .before in k .read-packet .kept .1 .1 .1 .1 .1 .0 ∙ l .loop .inv .2 ∙ sym (l .before .before .before .before .before .before .pre .1)
-
--- src/lib.rt:204:13
 returns : tie.Need-returns Inv-loop μ-loop
-returns c =
-    let k = c .before .before .before .before in
-    let l = k .before .before .before in
-    read-stop _ _ _ _ _ (l .loop .i) (l .loop .inv .3) (omega arith) (omega arith) (k .read-packet .ensures .0) (k .read-packet .ensures .1) (c .if1 .taken)
+returns c = let r = c .before .before in
+    let l = r .before .before .before in (
+      λ g k. read-stop g _ _ _ _ (l .loop .inv g k) (inside r) (r .read-packet .ensures .0 g k) (r .read-packet .ensures .1 .0 g k) (c .if1 .taken) .0,
+      λ g k. read-stop g _ _ _ _ (l .loop .inv g k) (inside r) (r .read-packet .ensures .0 g k) (r .read-packet .ensures .1 .0 g k) (c .if1 .taken) .1,
+    )
 
--- src/lib.rt:201:5
 loop-less : tie.Need-loop-less Inv-loop μ-loop
-loop-less c =
-    let k = c .before .before .before .before in
-    let l = k .before .before .before in
-    omega (
-      arith,
-      read-ahead _ _ _ _ _ (l .loop .i) (l .loop .inv .3) (omega arith) (omega arith) (k .read-packet .ensures .0) (k .read-packet .ensures .1) (c .if1 .left),
-      read-inside _ _ _ _ _ (l .loop .i) (l .loop .inv .3) (omega arith) (omega arith) (k .read-packet .ensures .0) (k .read-packet .ensures .1) (c .if1 .left),
-    )
+loop-less c = omega (arith, c .before .before .read-packet .ensures .1 .1 (c .if1 .left))
 
--- src/lib.rt:201:5
 loop-again : tie.Need-loop-again Inv-loop μ-loop
-loop-again c =
-    let k = c .before .before .before .before in
-    let l = k .before .before .before in (
-      read-inside _ _ _ _ _ (l .loop .i) (l .loop .inv .3) (omega arith) (omega arith) (k .read-packet .ensures .0) (k .read-packet .ensures .1) (c .if1 .left),
-      l .loop .inv .1,
-      k .read-packet .kept .1 .1 .1 .1 .1 .0 ∙ l .loop .inv .2,
-      read-on _ _ _ _ _ (l .loop .i) (l .loop .inv .3) (omega arith) (omega arith) (k .read-packet .ensures .0) (k .read-packet .ensures .1) (c .if1 .left),
+loop-again c = let r = c .before .before in
+    λ g k. read-on g _ _ _ _ (r .before .before .before .loop .inv g k) (inside r) (r .read-packet .ensures .0 g k) (r .read-packet .ensures .1 .0 g k) (c .if1 .left)
+
+returns-2 : tie.Need-returns-2 Inv-loop μ-loop
+returns-2 c = let l = c .before .before in
+    let more : length (wordsOf (l .before .before .args .batch .now)) < l .loop .at = omega (arith, length-words (l .before .before .args .batch .now), c .if2 .taken) in (
+      λ g k. ended (l .before .before .args .batch .now) _ _ refl (as-answer (not-whole g _ _ _ _ (l .loop .inv g k) more)),
+      λ g k. as-state (not-whole g _ _ _ _ (l .loop .inv g k) more),
     )
 
--- src/lib.rt:187:1
-same-length-2 : tie.Need-same-length-2 Inv-loop μ-loop
-same-length-2 c = let l = c .before in l .loop .inv .2 ∙ sym (l .before .before .before .before .before .before .pre .1)
-
--- src/lib.rt:187:1
-returns-2 : tie.Need-returns-2 Inv-loop μ-loop
-returns-2 c =
-    let l = c .before in
-    let e = all-read _ _ _ _ _ (l .loop .i) (l .loop .inv .3) (omega arith) in
-    (as-answer e, as-state e)
+returns-3 : tie.Need-returns-3 Inv-loop μ-loop
+returns-3 c =
+    let l = c .before .before in
+    let all : l .loop .at ≡ length (wordsOf (l .before .before .args .batch .now)) = omega (arith, length-words (l .before .before .args .batch .now), c .if2 .left) in (
+      λ g k. ended (l .before .before .args .batch .now) _ _ all (as-answer (all-read g _ _ _ _ (l .loop .inv g k) all)),
+      λ g k. as-state (all-read g _ _ _ _ (l .loop .inv g k) all),
+    )
 
 pub read-packets-spec : {M : Type 1} → statement M
 read-packets-spec =
@@ -82,9 +76,8 @@ read-packets-spec =
     μ-loop
     loop-holds
     read-packet-requires
-    same-length
     returns
     loop-less
     loop-again
-    same-length-2
-    returns-2)
+    returns-2
+    returns-3)

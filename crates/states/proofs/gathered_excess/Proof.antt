@@ -1,20 +1,22 @@
 -- The invariant: what is gathered so far is 0 exactly if each unmarked value of the cells passed is.
 -- Assumes nothing.
-use mathlib.Core.Path.{_≡_, refl, ap, _∙_}
-use Prim.Native.Nat.{_≤_, _-_}
+use mathlib.Core.Path.{_≡_, refl, ap, ap₂, _∙_}
+use Prim.Native.Nat.{ℕ, _≤_, _-_}
 use native.Mathlib.Omega.{arith}
 use lib.Dec.{eqb}
 use Rattle.laws.specs.Lists.{every, from}
 use Rattle.laws.specs.Tests.{implies}
+use Rattle.meaning.specs.Words.{wordsOf}
 use Rattle.meaning.specs.Registers.{cells, cell}
 use Rattle.meaning.specs.State.{valueAt, markAt}
 use Rattle.states.specs.Marks.{clearTo}
-use Rattle.states.proofs.Formed.{or-zero, one-more, mark-small}
+use Rattle.laws.proofs.Bits.{or-zero}
+use Rattle.states.proofs.Formed.{one-more, mark-small}
 use Rattle.states.proofs.gathered_excess.Statement.{statement}
 use Rattle.states.proofs.gathered_excess.Tie as tie
 
 abbrev Inv-loop : tie.InvT-loop
-Inv-loop state held₀ c₀ held c = (c ≤ cells) × (eqb held 0 ≡ clearTo state c)
+Inv-loop state held₀ c₀ held c = (c ≤ cells) × (eqb held 0 ≡ clearTo (wordsOf state) c)
 
 abbrev μ-loop : tie.MeasureT-loop
 μ-loop state held₀ c₀ held c = cells - c
@@ -23,26 +25,17 @@ loop-holds : tie.Need-loop-holds Inv-loop μ-loop
 unfolding every from
 loop-holds c = (omega arith, refl)
 
-mul-excess : tie.Need-mul-excess Inv-loop μ-loop
-mul-excess c = omega arith
+value-requires : tie.Need-value-requires Inv-loop μ-loop
+value-requires c κs = (omega arith, omega arith)
 
-shared-slice-read-excess : tie.Need-shared-slice-read-excess Inv-loop μ-loop
-shared-slice-read-excess c = omega arith
-
-add-excess : tie.Need-add-excess Inv-loop μ-loop
-add-excess c = omega arith
-
-mul-excess-2 : tie.Need-mul-excess-2 Inv-loop μ-loop
-mul-excess-2 c = omega arith
-
-shared-slice-read-excess-2 : tie.Need-shared-slice-read-excess-2 Inv-loop μ-loop
-shared-slice-read-excess-2 c = omega arith
+mark-requires : tie.Need-mark-requires Inv-loop μ-loop
+mark-requires c κs = (omega arith, omega arith)
 
 excess-requires : tie.Need-excess-requires Inv-loop μ-loop
 excess-requires c κs =
     let l = c .before .before .before in
     let start = l .before .before in
-    mark-small (start .args .state .now) (l .loop .c) (start .pre .1) (omega arith)
+    omega (arith, mark-small (wordsOf (start .args .state .now)) (l .loop .c) (start .pre .1) (omega arith))
 
 add-c : tie.Need-add-c Inv-loop μ-loop
 add-c c = omega arith
@@ -52,8 +45,9 @@ loop-less c = omega arith
 
 loop-again : tie.Need-loop-again Inv-loop μ-loop
 loop-again c =
-    let l = c .before .before .before .before in
-    let st = l .before .before .args .state .now in (
+    let m = c .before in
+    let l = m .before .before .before in
+    let st = wordsOf (l .before .before .args .state .now) in (
       omega arith,
       one-more
           (λ h. eqb h 0)
@@ -62,7 +56,8 @@ loop-again c =
           (l .loop .held)
           (c .excess .result)
           (l .loop .c)
-          (c .excess .ensures)
+          (c .excess .ensures
+          ∙ ap₂ (λ (k v : ℕ). implies (eqb k 0) (eqb v 0)) (m .mark .ensures) (m .before .value .ensures))
           (l .loop .inv .1),
     )
 
@@ -70,7 +65,7 @@ returns : tie.Need-returns Inv-loop μ-loop
 returns c =
     let l = c .before in
     let e : l .loop .c ≡ cells = omega arith in
-    l .loop .inv .1 ∙ ap (clearTo (l .before .before .args .state .now)) e
+    l .loop .inv .1 ∙ ap (clearTo (wordsOf (l .before .before .args .state .now))) e
 
 pub gathered-excess-spec : {M : Type 1} → statement M
 gathered-excess-spec =
@@ -79,11 +74,8 @@ gathered-excess-spec =
     Inv-loop
     μ-loop
     loop-holds
-    mul-excess
-    shared-slice-read-excess
-    add-excess
-    mul-excess-2
-    shared-slice-read-excess-2
+    value-requires
+    mark-requires
     excess-requires
     add-c
     loop-less

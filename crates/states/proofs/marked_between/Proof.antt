@@ -1,16 +1,17 @@
 -- The invariant: what is counted, with the marked cells that are left, is the number of all; and no more is counted than cells are passed.
 -- Assumes nothing.
-use mathlib.Core.Path.{_≡_}
+use mathlib.Core.Path.{_≡_, ap}
 use Prim.Native.Nat.{_+_, _≤_, _-_}
 use native.Mathlib.Omega.{arith}
 use borrow.Author.Needs.{needs}
-use Rattle.states.specs.Marks.{markedIn}
+use Rattle.meaning.specs.Words.{wordsOf}
+use Rattle.states.specs.Marks.{oneIfMarked, markedIn}
 use Rattle.states.proofs.Counted.{marked-next, marked-none}
 use Rattle.states.proofs.marked_between.Statement.{statement}
 use Rattle.states.proofs.marked_between.Tie as tie
 
 abbrev Inv-loop : tie.InvT-loop
-Inv-loop state first end n₀ c₀ n c = (n + first ≤ c) × (n + markedIn state c (end - c) ≡ markedIn state first (end - first))
+Inv-loop state first end n₀ c₀ n c = (n + first ≤ c) × (n + markedIn (wordsOf state) c (end - c) ≡ markedIn (wordsOf state) first (end - first))
 
 abbrev μ-loop : tie.MeasureT-loop
 μ-loop state first end n₀ c₀ n c = end - c
@@ -18,14 +19,8 @@ abbrev μ-loop : tie.MeasureT-loop
 loop-holds : tie.Need-loop-holds Inv-loop μ-loop
 loop-holds c = (omega arith, omega arith)
 
-add-one : tie.Need-add-one Inv-loop μ-loop
-add-one c = omega arith
-
-mul-one : tie.Need-mul-one Inv-loop μ-loop
-mul-one c = omega arith
-
-shared-slice-read-one : tie.Need-shared-slice-read-one Inv-loop μ-loop
-shared-slice-read-one c = omega arith
+mark-requires : tie.Need-mark-requires Inv-loop μ-loop
+mark-requires c κs = (omega arith, omega arith)
 
 one-requires : tie.Need-one-requires Inv-loop μ-loop
 one-requires c κs = search needs
@@ -41,15 +36,16 @@ loop-less c = omega arith
 
 loop-again : tie.Need-loop-again Inv-loop μ-loop
 loop-again c =
-    let l = c .before .before .before in
+    let m = c .before in
+    let l = m .before .before in
     let a = l .before .before .args in
-    (omega arith, omega (arith, marked-next (a .state .now) (l .loop .c) (a .end) (omega arith)))
+    (omega arith, omega (arith, ap oneIfMarked (m .mark .ensures), marked-next (wordsOf (a .state .now)) (l .loop .c) (a .end) (omega arith)))
 
 returns : tie.Need-returns Inv-loop μ-loop
 returns c =
     let l = c .before in
     let a = l .before .before .args in
-    omega (arith, marked-none (a .state .now) (l .loop .c) (a .end - l .loop .c) (omega arith))
+    omega (arith, marked-none (wordsOf (a .state .now)) (l .loop .c) (a .end - l .loop .c) (omega arith))
 
 pub marked-between-spec : {M : Type 1} → statement M
 marked-between-spec =
@@ -58,9 +54,7 @@ marked-between-spec =
     Inv-loop
     μ-loop
     loop-holds
-    add-one
-    mul-one
-    shared-slice-read-one
+    mark-requires
     one-requires
     add-n
     add-c

@@ -1,24 +1,32 @@
--- `values::bytes_per_pixel` meets its contract: the table is the one of the definitions, and its entries are right for every number.
+-- The digit of each format byte is right for every number.
 -- Assumes nothing.
-use mathlib.Core.Path.{_∙_}
-use Rattle.meaning.specs.Registers.{formatTable}
-use Rattle.values.proofs.Formats.{entry}
+use Rattle.values.proofs.Formats.{rows, digit}
 use borrow.Author.Needs.{needs}
 use Rattle.values.proofs.bytes_per_pixel.Statement.{statement}
 use Rattle.values.proofs.bytes_per_pixel.Tie as tie
 
-cast-wide : tie.Need-cast-wide
-cast-wide c = search needs
+cast-row : tie.Need-cast-row
+cast-row c = search needs
 
-array-read-wide : tie.Need-array-read-wide
-array-read-wide c = search needs
+mul-row : tie.Need-mul-row
+mul-row c = search needs
 
-wide-requires : tie.Need-wide-requires
-wide-requires c κs = search needs
+array-read-row : tie.Need-array-read-row
+array-read-row c = search needs
+
+mul-result : tie.Need-mul-result
+mul-result c = search needs
+
+cast-result : tie.Need-cast-result
+cast-result c = search needs
+
+shr-result : tie.Need-shr-result
+shr-result c = search needs
 
 returns : tie.Need-returns
-unfolding formatTable
-returns c = c .wide .ensures .0 ∙ entry (c .before .args .byte)
+unfolding rows
+returns c = digit (c .args .byte)
 
 pub bytes-per-pixel-spec : {M : Type 1} → statement M
-bytes-per-pixel-spec = tie.close (tie.spec cast-wide array-read-wide wide-requires returns)
+bytes-per-pixel-spec =
+    tie.close (tie.spec cast-row mul-row array-read-row mul-result cast-result shr-result returns)

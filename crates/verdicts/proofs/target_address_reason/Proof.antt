@@ -1,9 +1,9 @@
 -- `verdicts::target_address_reason` meets its contract: the row has no mask and no rule but that the address is granted.
 -- Assumes nothing.
-use borrow.Author.Needs.{needs}
 use Rattle.meaning.specs.Registers.{targetGroup}
 use Rattle.verdicts.proofs.Registers.{own-target}
 use Rattle.verdicts.proofs.Judging.{at-cell, order}
+use borrow.Author.Needs.{needs}
 use Rattle.verdicts.proofs.target_address_reason.Statement.{statement}
 use Rattle.verdicts.proofs.target_address_reason.Tie as tie
 

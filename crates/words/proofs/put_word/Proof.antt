@@ -6,6 +6,7 @@ use native.Mathlib.Numerals.{towards-suc}
 use lib.ListN.{length-set}
 use native.Mathlib.Omega.{arith}
 use borrow.Author.Needs.{needs}
+use Rattle.words.specs.Stores.{putWords}
 use Rattle.words.proofs.put_word.Statement.{statement}
 use Rattle.words.proofs.put_word.Tie as tie
 
@@ -49,6 +50,7 @@ same-length : tie.Need-same-length
 same-length c = search needs
 
 returns : tie.Need-returns
+unfolding putWords
 returns c =
     let low : c .args .w / 2 ^ 0 ≡ c .args .w = omega arith in
     simp (towards-suc, low)

@@ -1,153 +1,125 @@
--- The invariant of both loops: the search from here on is what is left of the whole search.
+-- Part by part, the search from there on is what is left of it.
 -- Assumes nothing.
-use mathlib.Core.Path.{_≡_, sym, _∙_}
-use Prim.Native.Nat.{_+_, _*_, _-_, _≤_}
+use mathlib.Core.Path.{_≡_, refl}
+use Prim.Native.Nat.{ℕ}
 use native.Mathlib.Omega.{arith}
-use borrow.Author.Needs.{needs}
+use Rattle.meaning.specs.Words.{wordsOf}
 use Rattle.meaning.specs.Registers.{cells}
-use Rattle.meaning.specs.Writer.{lowestBad}
-use Rattle.grants.specs.Spans.{held}
-use Rattle.grants.proofs.Spans.{held-1, held-2, held-3}
-use Rattle.emitter.specs.Emitted.{many}
-use Rattle.writer.proofs.Lowest.{Left, all-left, nothing, went, stopped, last-part, found-video, none-video}
+use Rattle.meaning.specs.Grants.{Terms}
+use Rattle.grants.specs.Kept.{Keeps}
+use Rattle.verdicts.specs.Scalers.{first, second}
+use Rattle.writer.specs.Search.{lowest}
+use Rattle.writer.proofs.Lowest.{Left, all-left, went, stopped, last-part}
+use borrow.Author.Needs.{needs}
 use Rattle.writer.proofs.lowest_bad.Statement.{statement}
 use Rattle.writer.proofs.lowest_bad.Tie as tie
 
-abbrev Inv-loop : tie.InvT-loop
-Inv-loop state t f s n₀ n = (n ≤ many) × Left (held t f s) state 0 cells (4 + 2 * n)
+-- the function's entry, from where a part's answer is known
+abbrev start-4 : tie.Else1 → tie.Start
+start-4 c = c .before .before .before .before
 
-abbrev μ-loop : tie.MeasureT-loop
-μ-loop state t f s n₀ n = many - n
+abbrev start-36 : tie.Else2 → tie.Start
+start-36 c = start-4 (c .before .before)
 
-abbrev Inv-loop2 : tie.InvT-loop2
-Inv-loop2 state t f s n m₀ m = (m ≤ many) × Left (held t f s) state 0 cells (36 + 3 * m)
+abbrev start-84 : tie.Else3 → tie.Start
+start-84 c = start-36 (c .before .before)
 
-abbrev μ-loop2 : tie.MeasureT-loop2
-μ-loop2 state t f s n m₀ m = many - m
+abbrev start-87 : tie.Else4 → tie.Start
+start-87 c = start-84 (c .before .before)
 
-bad-in-target-requires : tie.Need-bad-in-target-requires Inv-loop μ-loop Inv-loop2 μ-loop2
-bad-in-target-requires c κs = c .before .before .before .before .pre
+abbrev start-94 : tie.Else5 → tie.Start
+start-94 c = start-87 (c .before .before .before)
 
-enum-known-target : tie.Need-enum-known-target Inv-loop μ-loop Inv-loop2 μ-loop2
-enum-known-target c = search needs
+-- under the grants that are kept
+abbrev Kept : tie.Start → Terms → Type 0
+Kept e g = Keeps g (e .args .starts .now) (e .args .lasts .now) (e .args .bounds .now)
 
-returns : tie.Need-returns Inv-loop μ-loop Inv-loop2 μ-loop2
-returns c =
-    let k = c .before in
-    let t = k .before .before in
-    let a = t .before .before .before .before .before .args in
-    stopped (all-left (held (a .t .now) (a .f .now) (a .s .now)) (a .state .now) 0 cells) 4 (omega arith) _ (sym (t .bad-in-target .ensures _ (held-1 _ _ _)) ∙ k .target .given .1)
+-- the search from cell i on is what is left of it
+abbrev Rest : tie.Start → ℕ → Type 0
+Rest e i = (g : Terms) → Kept e g → Left g (wordsOf (e .args .state .now)) 0 cells i
 
-enum-told : tie.Need-enum-told Inv-loop μ-loop Inv-loop2 μ-loop2
-enum-told c = search needs
+part-of-requires : tie.Need-part-of-requires
+part-of-requires c κs = search needs
 
-loop-holds : tie.Need-loop-holds Inv-loop μ-loop Inv-loop2 μ-loop2
-loop-holds c =
-    let t = c .before .before in
-    let a = t .before .before .before .before .before .args in
-    (omega arith, went (all-left (held (a .t .now) (a .f .now) (a .s .now)) (a .state .now) 0 cells) 4 (4 + 2 * 0) (omega arith) (omega arith) (sym (t .bad-in-target .ensures _ (held-1 _ _ _)) ∙ c .enum-told .given .1))
+bad-in-target-requires : tie.Need-bad-in-target-requires
+bad-in-target-requires c κs = let e = c .before .before in (e .pre .0, rw (c .part-of .ensures) (e .pre .1 1 (omega arith)))
 
-bad-in-stage-requires : tie.Need-bad-in-stage-requires Inv-loop μ-loop Inv-loop2 μ-loop2
-bad-in-stage-requires c κs = (c .before .before .before .before .before .before .before .before .before .pre, omega arith)
+target : (c : tie.After-bad-in-target) (g : Terms) → let e = c .before .before .before in Kept e g → c .bad-in-target .result ≡ lowest g (wordsOf (e .args .state .now)) 0 4
+target c g k = c .bad-in-target .ensures g (rw (c .before .part-of .ensures) (k .targets))
 
-enum-known-stage : tie.Need-enum-known-stage Inv-loop μ-loop Inv-loop2 μ-loop2
-enum-known-stage c = search needs
+returns : tie.Need-returns
+returns c g k = stopped (all-left g _ 0 cells) 4 (omega arith) (target (c .before) g k) (c .if1 .taken)
 
-returns-2 : tie.Need-returns-2 Inv-loop μ-loop Inv-loop2 μ-loop2
-returns-2 c =
-    let k = c .before in
-    let b = k .before .before in
-    stopped (b .before .before .loop .inv .1) 2 (omega arith) _ (sym (b .bad-in-stage .ensures _) ∙ k .stage .given .1)
+left-4 : (c : tie.Else1) → Rest (start-4 c) 4
+left-4 c g k = went (all-left g _ 0 cells) 4 4 refl (omega arith) (target (c .before) g k) (c .if1 .left)
 
-enum-told-2 : tie.Need-enum-told-2 Inv-loop μ-loop Inv-loop2 μ-loop2
-enum-told-2 c = search needs
+bad-in-stages-requires : tie.Need-bad-in-stages-requires
+bad-in-stages-requires c κs = search needs
 
-add-n : tie.Need-add-n Inv-loop μ-loop Inv-loop2 μ-loop2
-add-n c = omega arith
+returns-2 : tie.Need-returns-2
+returns-2 c g k = let r = c .before in stopped (left-4 (r .before) g k) 32 (omega arith) (r .bad-in-stages .ensures g) (c .if2 .taken)
 
-loop-less : tie.Need-loop-less Inv-loop μ-loop Inv-loop2 μ-loop2
-loop-less c = omega arith
+left-36 : (c : tie.Else2) → Rest (start-36 c) 36
+left-36 c g k = let r = c .before in went (left-4 (r .before) g k) 32 36 refl (omega arith) (r .bad-in-stages .ensures g) (c .if2 .left)
 
-loop-again : tie.Need-loop-again Inv-loop μ-loop Inv-loop2 μ-loop2
-loop-again c =
-    let b = c .before .before in
-    let l = b .before .before in
-    (omega arith, went (l .loop .inv .1) 2 (4 + 2 * (l .loop .n + 1)) (omega arith) (omega arith) (sym (b .bad-in-stage .ensures _) ∙ c .enum-told2 .given .1))
+bad-in-samples-requires : tie.Need-bad-in-samples-requires
+bad-in-samples-requires c κs = search needs
 
-loop2-holds : tie.Need-loop2-holds Inv-loop μ-loop Inv-loop2 μ-loop2
-loop2-holds c =
-    let l = c .before in
-    (omega arith, went (l .loop .inv .1) 0 (36 + 3 * 0) (omega arith) (omega arith) (nothing _ _ (4 + 2 * l .loop .n)))
+returns-3 : tie.Need-returns-3
+returns-3 c g k = let r = c .before in stopped (left-36 (r .before) g k) 48 (omega arith) (r .bad-in-samples .ensures g) (c .if3 .taken)
 
-bad-in-sample-requires : tie.Need-bad-in-sample-requires Inv-loop μ-loop Inv-loop2 μ-loop2
-bad-in-sample-requires c κs = (c .before .before .before .before .before .before .before .before .before .before .before .pre, omega arith)
+left-84 : (c : tie.Else3) → Rest (start-84 c) 84
+left-84 c g k = let r = c .before in went (left-36 (r .before) g k) 48 84 refl (omega arith) (r .bad-in-samples .ensures g) (c .if3 .left)
 
-enum-known-sample : tie.Need-enum-known-sample Inv-loop μ-loop Inv-loop2 μ-loop2
-enum-known-sample c = search needs
+bad-in-overlay-requires : tie.Need-bad-in-overlay-requires
+bad-in-overlay-requires c κs = search needs
 
-returns-3 : tie.Need-returns-3 Inv-loop μ-loop Inv-loop2 μ-loop2
-returns-3 c =
-    let k = c .before in
-    let b = k .before .before in
-    stopped (b .before .before .loop2 .inv .1) 3 (omega arith) _ (sym (b .bad-in-sample .ensures _) ∙ k .sample .given .1)
+returns-4 : tie.Need-returns-4
+returns-4 c g k = let r = c .before in stopped (left-84 (r .before) g k) 3 (omega arith) (r .bad-in-overlay .ensures g) (c .if4 .taken)
 
-enum-told-3 : tie.Need-enum-told-3 Inv-loop μ-loop Inv-loop2 μ-loop2
-enum-told-3 c = search needs
+left-87 : (c : tie.Else4) → Rest (start-87 c) 87
+left-87 c g k = let r = c .before in went (left-84 (r .before) g k) 3 87 refl (omega arith) (r .bad-in-overlay .ensures g) (c .if4 .left)
 
-add-m : tie.Need-add-m Inv-loop μ-loop Inv-loop2 μ-loop2
-add-m c = omega arith
+part-of-requires-2 : tie.Need-part-of-requires-2
+part-of-requires-2 c κs = search needs
 
-loop2-less : tie.Need-loop2-less Inv-loop μ-loop Inv-loop2 μ-loop2
-loop2-less c = omega arith
+bad-in-scaler-requires : tie.Need-bad-in-scaler-requires
+bad-in-scaler-requires c κs = let e = start-87 (c .before) in (e .pre .0, (omega arith, rw (c .part-of2 .ensures) (e .pre .1 2 (omega arith))))
 
-loop2-again : tie.Need-loop2-again Inv-loop μ-loop Inv-loop2 μ-loop2
-loop2-again c =
-    let b = c .before .before in
-    let l = b .before .before in
-    (omega arith, went (l .loop2 .inv .1) 3 (36 + 3 * (l .loop2 .m + 1)) (omega arith) (omega arith) (sym (b .bad-in-sample .ensures _) ∙ c .enum-told3 .given .1))
+scaler : (c : tie.After-bad-in-scaler) (g : Terms) → let e = start-87 (c .before .before) in Kept e g → c .bad-in-scaler .result ≡ lowest g (wordsOf (e .args .state .now)) 87 7
+scaler c g k = c .bad-in-scaler .ensures g 2 first (rw (c .before .part-of2 .ensures) (k .firsts))
 
-bad-in-video-requires : tie.Need-bad-in-video-requires Inv-loop μ-loop Inv-loop2 μ-loop2
-bad-in-video-requires c κs = c .before .before .before .before .before .before .before .before .before .before .before .pre
+returns-5 : tie.Need-returns-5
+returns-5 c g k = let r = c .before in stopped (left-87 (r .before .before) g k) 7 (omega arith) (scaler r g k) (c .if5 .taken)
 
--- the video cells are what is left
-video-left : (c : tie.After-loop2 Inv-loop μ-loop Inv-loop2 μ-loop2) → let a = c .before .before .before .before .before .before .before .before .before .before .before .args in
-    lowestBad (held (a .t .now) (a .f .now) (a .s .now)) (a .state .now) 84 17 ≡ lowestBad (held (a .t .now) (a .f .now) (a .s .now)) (a .state .now) 0 cells
-video-left c = let l = c .before in last-part (went (l .loop2 .inv .1) 0 84 (omega arith) (omega arith) (nothing _ _ (36 + 3 * l .loop2 .m))) 17 (omega arith)
+left-94 : (c : tie.Else5) → Rest (start-94 c) 94
+left-94 c g k = let r = c .before in went (left-87 (r .before .before) g k) 7 94 refl (omega arith) (scaler r g k) (c .if5 .left)
 
-returns-4 : tie.Need-returns-4 Inv-loop μ-loop Inv-loop2 μ-loop2
-returns-4 c = let v = c .before .before in found-video _ _ (v .bad-in-video .ensures _ (held-2 _ _ _) (held-3 _ _ _)) (c .if1 .taken) ∙ video-left (v .before)
+part-of-requires-3 : tie.Need-part-of-requires-3
+part-of-requires-3 c κs = search needs
 
-returns-5 : tie.Need-returns-5 Inv-loop μ-loop Inv-loop2 μ-loop2
-returns-5 c = let v = c .before .before in none-video _ _ (v .bad-in-video .ensures _ (held-2 _ _ _) (held-3 _ _ _)) (c .if1 .left) ∙ video-left (v .before)
+bad-in-scaler-requires-2 : tie.Need-bad-in-scaler-requires-2
+bad-in-scaler-requires-2 c κs = let e = start-94 (c .before) in (e .pre .0, (omega arith, rw (c .part-of3 .ensures) (e .pre .1 3 (omega arith))))
+
+returns-6 : tie.Need-returns-6
+returns-6 c g k = last-part (left-94 (c .before .before) g k) 7 refl (c .bad-in-scaler2 .ensures g 3 second (rw (c .before .part-of3 .ensures) (k .seconds)))
 
 pub lowest-bad-spec : {M : Type 1} → statement M
 lowest-bad-spec =
     tie.close
     (tie.spec
-    Inv-loop
-    μ-loop
-    Inv-loop2
-    μ-loop2
+    part-of-requires
     bad-in-target-requires
-    enum-known-target
     returns
-    enum-told
-    loop-holds
-    bad-in-stage-requires
-    enum-known-stage
+    bad-in-stages-requires
     returns-2
-    enum-told-2
-    add-n
-    loop-less
-    loop-again
-    loop2-holds
-    bad-in-sample-requires
-    enum-known-sample
+    bad-in-samples-requires
     returns-3
-    enum-told-3
-    add-m
-    loop2-less
-    loop2-again
-    bad-in-video-requires
+    bad-in-overlay-requires
     returns-4
-    returns-5)
+    part-of-requires-2
+    bad-in-scaler-requires
+    returns-5
+    part-of-requires-3
+    bad-in-scaler-requires-2
+    returns-6)

@@ -1,14 +1,19 @@
--- Each refusal is an answer that leaves the output as it was; with neither, the words stand over the front of the output.
+-- Each refusal leaves the output as it was; with none, the words stand over the front of the output.
 -- Assumes nothing.
-use mathlib.Core.Path.{_≡_}
+use mathlib.Core.Path.{_≡_, refl}
 use mathlib.Core.Bool.{true}
-use borrow.Author.Needs.{needs}
 use lib.ListN.{length}
 use Rattle.laws.proofs.Arms.{told-true, told-false}
 use Rattle.laws.proofs.Tests.{holds-of}
-use Rattle.meaning.specs.Grants.{grantsFine}
+use Rattle.meaning.specs.Words.{wordsOf}
+use Rattle.meaning.specs.Registers.{cells}
+use Rattle.meaning.specs.Grants.{grantsFine, termsOf}
 use Rattle.meaning.specs.State.{stateWords, wellFormed}
-use Rattle.writer.proofs.Answers.{whole, state-refused, grants-refused, Told, told}
+use Rattle.grants.specs.Kept.{Keeps, Bounded}
+use Rattle.writer.specs.Search.{lowest}
+use Rattle.writer.proofs.Rows.{whole}
+use Rattle.writer.proofs.Answers.{none-narrow, kept-after, room-for, refused-state, refused-grants, refused-cell, refused-room, done}
+use borrow.Author.Needs.{needs}
 use Rattle.writer.proofs.write.Statement.{statement}
 use Rattle.writer.proofs.write.Tie as tie
 
@@ -16,72 +21,75 @@ well-formed-requires : tie.Need-well-formed-requires
 well-formed-requires c κs = search needs
 
 returns : tie.Need-returns
-returns c =
-    let a = c .before .before .before .before .before .args in
-    state-refused (a .state .now) (a .grants .now) (a .out .now) (told-false (c .before .well-formed .ensures) (c .if1 .taken))
+returns c = (refused-state _ _ _ (told-false (c .before .well-formed .ensures) (c .if1 .taken)), refl)
+
+keep-requires : tie.Need-keep-requires
+keep-requires c κs = search needs
 
 -- the state is well-formed, and so it is whole
-formed : (c : tie.Else1) → wellFormed (c .before .before .before .before .before .args .state .now) ≡ true
+formed : (c : tie.Else1) → wellFormed (wordsOf (c .before .before .before .before .before .args .state .now)) ≡ true
 formed c = told-true (c .before .well-formed .ensures) (c .if1 .left)
 
-formed-whole : (c : tie.Else1) → length (c .before .before .before .before .before .args .state .now) ≡ stateWords
-formed-whole c = whole (c .before .before .before .before .before .args .state .now) (formed c)
-
-grants-fine-requires : tie.Need-grants-fine-requires
-grants-fine-requires c κs = search needs
+formed-whole : (c : tie.Else1) → length (wordsOf (c .before .before .before .before .before .args .state .now)) ≡ stateWords
+formed-whole c = whole _ (holds-of (formed c))
 
 returns-2 : tie.Need-returns-2
-returns-2 c =
-    let e = c .before .before in
-    let a = e .before .before .before .before .before .args in
-    grants-refused (a .state .now) (a .grants .now) (a .out .now) (formed e) (told-false (c .before .grants-fine .ensures) (c .if2 .taken))
+returns-2 c = let k = c .before in (refused-grants _ _ _ (formed (k .before .before .before .before)) (told-false (k .keep .ensures .0) (c .if2 .taken)), refl)
 
--- the grant list keeps its rules
-fine : (c : tie.Else2) → grantsFine (c .before .before .before .before .before .before .before .args .grants .now) ≡ true
-fine c = told-true (c .before .grants-fine .ensures) (c .if2 .left)
+-- the grants keep their rules, and are kept
+abbrev else-1 : tie.Else2 → tie.Else1
+else-1 c = c .before .before .before .before .before
 
-lowest-under-requires : tie.Need-lowest-under-requires
-lowest-under-requires c κs = (formed-whole (c .before .before), holds-of (fine c))
+abbrev start : tie.Else2 → tie.Start
+start c = else-1 c .before .before .before .before .before
 
-needed-requires : tie.Need-needed-requires
-needed-requires c κs = formed-whole (c .before .before .before)
+fine : (c : tie.Else2) → grantsFine (wordsOf (start c .args .grants .now)) ≡ true
+fine c = told-true (c .before .keep .ensures .0) (c .if2 .left)
 
-cell-answer-requires : tie.Need-cell-answer-requires
-cell-answer-requires c κs = search needs
+kept : (c : tie.Else2) → let k = c .before .keep .last in
+    Keeps (termsOf (wordsOf (start c .args .grants .now))) (k .1 .0) (k .1 .1 .0) (k .1 .1 .1 .0) × Bounded (k .1 .1 .1 .0)
+kept c = let e = c .before .keep .ensures in kept-after _ _ _ refl refl (fine c) (e .1 .0) (e .1 .1 .0) (e .1 .1 .1)
 
-room-answer-requires : tie.Need-room-answer-requires
-room-answer-requires c κs = search needs
+lowest-bad-requires : tie.Need-lowest-bad-requires
+lowest-bad-requires c κs = let e = c .before .before .before in (holds-of (formed (else-1 e)), kept e .1)
 
-earlier-requires : tie.Need-earlier-requires
-earlier-requires c κs = search needs
+-- the lowest bad cell
+abbrev else-2 : tie.After-lowest-bad → tie.Else2
+else-2 c = c .before .before .before .before
 
--- both answers are at hand
-judged : (c : tie.After-earlier) → let a = c .before .before .before .before .before .before .before .before .before .before .before .before .args in
-    Told (a .state .now) (a .grants .now) (a .out .now) (c .earlier .result)
-judged c =
-    let r = c .before in
-    let k = r .before in
-    let n = k .before in
-    let f = n .before in
-    let e = f .before in
-    let a = e .before .before .before .before .before .before .before .args in
-    told (a .state .now) (a .grants .now) (a .out .now) (formed (e .before .before)) (fine e)
-    (f .lowest-under .ensures) (n .needed .ensures) (k .cell-answer .ensures) (r .room-answer .ensures) (c .earlier .ensures)
+low : (c : tie.After-lowest-bad) → let a = start (else-2 c) .args in c .lowest-bad .result ≡ lowest (termsOf (wordsOf (a .grants .now))) (wordsOf (a .state .now)) 0 cells
+low c = c .lowest-bad .ensures _ (kept (else-2 c) .0)
 
 returns-3 : tie.Need-returns-3
-returns-3 c = judged (c .before .before) .refused (c .if3 .taken)
+returns-3 c = let l = c .before in let e = else-2 l in (refused-cell _ _ _ (formed (else-1 e)) (fine e) (low l) (c .if3 .taken), refl)
+
+needed-requires : tie.Need-needed-requires
+needed-requires c κs = formed-whole (else-1 (else-2 (c .before)))
+
+returns-4 : tie.Need-returns-4
+returns-4 c =
+    let n = c .before .before in
+    let l = n .before .before in
+    let e = else-2 l in
+    (refused-room _ _ _ (formed (else-1 e)) (fine e) (low l) (n .before .if3 .left) (n .needed .ensures .1) (c .if4 .taken), refl)
 
 emit-requires : tie.Need-emit-requires
 emit-requires c κs =
-    let t = c .before in
-    let r = t .before .before in
-    (formed-whole (r .before .before .before .before .before .before .before), (judged r .narrow (t .if3 .left), judged r .room (t .if3 .left)))
+    let n = c .before .before .before in
+    let l = n .before .before in
+    (formed-whole (else-1 (else-2 l)), (none-narrow _ _ (low l) (n .before .if3 .left), (room-for (n .needed .ensures .1) (c .before .if4 .left), n .needed .ensures .0)))
 
 same-length : tie.Need-same-length
 same-length c = search needs
 
-returns-4 : tie.Need-returns-4
-returns-4 c = let m = c .before .before in let t = m .before .before in judged (t .before .before) .done (t .if3 .left) (m .emit .ensures)
+returns-5 : tie.Need-returns-5
+returns-5 c =
+    let m = c .before .before in
+    let h = m .before .before in
+    let n = h .before .before in
+    let l = n .before .before in
+    let e = else-2 l in
+    (done _ _ _ (formed (else-1 e)) (fine e) (low l) (n .before .if3 .left) (n .needed .ensures .1) (h .if4 .left), m .emit .ensures)
 
 pub write-spec : {M : Type 1} → statement M
 write-spec =
@@ -89,14 +97,12 @@ write-spec =
     (tie.spec
     well-formed-requires
     returns
-    grants-fine-requires
+    keep-requires
     returns-2
-    lowest-under-requires
-    needed-requires
-    cell-answer-requires
-    room-answer-requires
-    earlier-requires
+    lowest-bad-requires
     returns-3
+    needed-requires
+    returns-4
     emit-requires
     same-length
-    returns-4)
+    returns-5)

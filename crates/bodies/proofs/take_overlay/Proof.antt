@@ -1,0 +1,114 @@
+-- Each word is judged and stored, one register after another: to read on from here is to read the whole.
+-- Assumes nothing.
+use mathlib.Core.Path.{_≡_, ap, _∙_}
+use Prim.Native.Nat.{ℕ, _+_, _-_, _≤_, _<_}
+use native.Mathlib.Omega.{arith}
+use lib.ListN.{getD}
+use lib.Seq.{slice}
+use Rattle.meaning.specs.declared.Kind.{Kind}
+use Rattle.meaning.specs.declared.Kind.the-variants.{Video}
+use Rattle.meaning.specs.Words.{wordsOf}
+use Rattle.meaning.specs.Registers.{cells, cell, registerAt}
+use Rattle.meaning.specs.Grants.{Terms}
+use Rattle.meaning.specs.State.{apply}
+use Rattle.meaning.specs.Reader.{valueReason, wordReason}
+use Rattle.registers.specs.Names.{offsetOf}
+use Rattle.bodies.proofs.Named.{row-overlay}
+use Rattle.bodies.specs.Passes.{stored, bodyFrom}
+use Rattle.bodies.proofs.Bodies.{body-on, body-stop, body-done, as-answer, as-state, nth, first-offset, next-offset, word-asked, word-stored, among-words}
+use Rattle.bodies.proofs.take_overlay.Statement.{statement}
+use Rattle.bodies.proofs.take_overlay.Tie as tie
+
+abbrev Inv-loop : tie.InvT-loop
+Inv-loop batch first end index state₀ k₀ at₀ state k at =
+    (first ≤ at) × (at ≤ end) × (k ≡ index + (at - first))
+    × ((g : Terms) → bodyFrom g at (Video (nth (offsetOf (cell (84 + index))) (at - first))) (slice at end (wordsOf batch)) state ≡ bodyFrom g first (Video (offsetOf (cell (84 + index)))) (slice first end (wordsOf batch)) state₀)
+
+abbrev μ-loop : tie.MeasureT-loop
+μ-loop batch first end index state₀ k₀ at₀ state k at =
+    end - at
+
+-- what is asked of the word at hand
+asked : (c : tie.After-overlay-reason Inv-loop μ-loop) → (g : Terms)
+    → let l = c .before .before .before in
+    let s = l .before .before in
+    c .overlay-reason .result ≡ wordReason g (Video (nth (offsetOf (cell (84 + s .args .index))) (l .loop .at - s .args .first))) (getD (wordsOf (s .args .batch .now)) (l .loop .at) 0)
+asked c g =
+    let l = c .before .before .before in
+    let s = l .before .before in
+    let own : c .overlay-reason .result ≡ valueReason g (registerAt (cell (84 + l .loop .k))) (getD (wordsOf (s .args .batch .now)) (l .loop .at) 0) = rw (c .before .word .ensures) at (c .overlay-reason .ensures g) in
+    word-asked g (84 + s .args .index) (l .loop .at - s .args .first) (omega arith) (omega arith) (rw (row-overlay (s .args .index) (omega arith)) (omega arith)) (omega arith) _ own
+
+-- and what is stored of it
+kept : (k : tie.After-store Inv-loop μ-loop) → (g : Terms)
+    → let l = k .before .before .before .before .before .before in
+    let s = l .before .before in
+    k .store .last .0 ≡ stored (Video (nth (offsetOf (cell (84 + s .args .index))) (l .loop .at - s .args .first))) (getD (wordsOf (s .args .batch .now)) (l .loop .at) 0) (l .loop .state)
+kept k g =
+    let l = k .before .before .before .before .before .before in
+    let s = l .before .before in
+    let own : k .store .last .0 ≡ apply (l .loop .state) (record { cell = cell (84 + l .loop .k); value = getD (wordsOf (s .args .batch .now)) (l .loop .at) 0 }) = rw (k .before .before .before .before .word .ensures) at (k .store .ensures) in
+    word-stored g (84 + s .args .index) (l .loop .at - s .args .first) (omega arith) (omega arith) (rw (row-overlay (s .args .index) (omega arith)) (omega arith)) (omega arith) _ _ own
+
+loop-holds : tie.Need-loop-holds Inv-loop μ-loop
+loop-holds c = let s = c .before in (omega arith, omega arith, omega arith, λ g. ap (λ (k : Kind). bodyFrom g (s .args .first) k (slice (s .args .first) (s .args .end) (wordsOf (s .args .batch .now))) (s .args .state .now)) (first-offset (offsetOf (cell (84 + s .args .index))) (s .args .first)))
+
+word-requires : tie.Need-word-requires Inv-loop μ-loop
+word-requires c κs = omega arith
+
+overlay-reason-requires : tie.Need-overlay-reason-requires Inv-loop μ-loop
+overlay-reason-requires c κs = omega arith
+
+returns : tie.Need-returns Inv-loop μ-loop
+returns c = let r = c .before in
+    let l = r .before .before .before in
+    let s = l .before .before in (
+      λ g. as-answer (body-stop g _ _ _ (among-words (s .args .batch .now) _ (s .pre .1 .0)) _ _ _ (l .loop .inv .3 g) (omega arith) (asked r g) (c .if1 .taken)),
+      λ g. as-state (body-stop g _ _ _ (among-words (s .args .batch .now) _ (s .pre .1 .0)) _ _ _ (l .loop .inv .3 g) (omega arith) (asked r g) (c .if1 .taken)),
+    )
+
+add-t13 : tie.Need-add-t13 Inv-loop μ-loop
+add-t13 c = omega arith
+
+store-requires : tie.Need-store-requires Inv-loop μ-loop
+store-requires c κs = omega arith
+
+add-at : tie.Need-add-at Inv-loop μ-loop
+add-at c = omega arith
+
+add-k : tie.Need-add-k Inv-loop μ-loop
+add-k c = omega arith
+
+loop-less : tie.Need-loop-less Inv-loop μ-loop
+loop-less c = omega arith
+
+loop-again : tie.Need-loop-again Inv-loop μ-loop
+loop-again c = let r = c .before .before .before in
+    let l = r .before .before .before in
+    let s = l .before .before in
+    (omega arith, omega arith, omega arith, λ g. body-on g _ _ _ (among-words (s .args .batch .now) _ (s .pre .1 .0)) _ _ _ (l .loop .inv .3 g) (omega arith) (asked r g) (c .before .before .if1 .left) (next-offset _ _ _ _ (omega arith)) (kept c g))
+
+returns-2 : tie.Need-returns-2 Inv-loop μ-loop
+returns-2 c = let l = c .before in
+    let s = l .before .before in (
+      λ g. as-answer (body-done g _ _ _ (among-words (s .args .batch .now) _ (s .pre .1 .0)) _ _ _ (l .loop .inv .3 g) (omega arith)),
+      λ g. as-state (body-done g _ _ _ (among-words (s .args .batch .now) _ (s .pre .1 .0)) _ _ _ (l .loop .inv .3 g) (omega arith)),
+    )
+
+pub take-overlay-spec : {M : Type 1} → statement M
+take-overlay-spec =
+    tie.close
+    (tie.spec
+    Inv-loop
+    μ-loop
+    loop-holds
+    word-requires
+    overlay-reason-requires
+    returns
+    add-t13
+    store-requires
+    add-at
+    add-k
+    loop-less
+    loop-again
+    returns-2)
