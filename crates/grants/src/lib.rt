@@ -1,9 +1,9 @@
 // The grant list: its rules, and its grants kept by role, each as the first and the last address that it covers, so that a test is two
 // comparisons.
 ghost use mathlib.Core.Path.{_≡_};
-ghost use mathlib.Core.Bool.{_&&_, true};
+ghost use mathlib.Core.Bool.{true};
 ghost use Prim.Native.Nat.{ℕ, _+_, _≤_, _<_};
-ghost use lib.Dec.{T, leb};
+ghost use lib.Dec.{T};
 ghost use lib.ListN.{length, getD};
 ghost use Rattle.meaning.specs.Words.{wordsOf};
 ghost use Rattle.meaning.specs.Grants.{grantsOf, grantFine, mostGrants, grantsFine};

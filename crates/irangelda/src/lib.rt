@@ -1,13 +1,9 @@
 // The calls of the driver: every buffer is bytes, and the answer is one number.
 ghost use mathlib.Core.Path.{_≡_};
 ghost use mathlib.Core.List.{[], _∷_};
-ghost use Prim.Native.Nat.{_≤_, _/_};
-ghost use lib.ListN.{length};
-ghost use Rattle.laws.specs.Lists.{every, over};
-ghost use Rattle.meaning.specs.Words.{wordsOf, bytesOf};
-ghost use Rattle.meaning.specs.Answers.{numberOf, settle};
-ghost use Rattle.meaning.specs.Writer.{written, writeAnswer};
-ghost use Rattle.meaning.specs.Lister.{listAnswer, listLeaves};
+ghost use Prim.Native.Nat.{_≤_};
+ghost use Rattle.laws.specs.Lists.{every};
+ghost use Rattle.meaning.specs.Answers.{numberOf};
 ghost use Rattle.meaning.specs.Calls as calls;
 use meaning::Answer;
 

@@ -4,7 +4,6 @@ pub mod Packets
 pub mod Cuts
 pub mod Reading
 pub mod Places
-pub mod Same
 pub mod Samples
 pub mod Writes
 pub mod Table

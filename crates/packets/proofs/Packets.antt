@@ -8,7 +8,7 @@ use native.Mathlib.Omega.{arith}
 use native.Mathlib.Decide.{decLt}
 use borrow.Author.Tests.{le-leb, lt-leb}
 use lib.Dec.{leb}
-use lib.ListN.{length, getD, take, drop, set, take-append-drop, length-drop, length-set, drop-of-length-le}
+use lib.ListN.{length, getD, take, drop, take-append-drop, length-drop, length-set, drop-of-length-le}
 use lib.Seq.{slice, take-all, length-take-le, drop-drop}
 use Rattle.laws.proofs.Rest.{rest}
 use Rattle.meaning.specs.declared.Kind.{Kind}

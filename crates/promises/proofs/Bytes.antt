@@ -1,21 +1,17 @@
 -- What a call leaves in a buffer of bytes, of any length, is, as words, what it leaves of the buffer's words.
 -- Assumes nothing.
-use mathlib.Core.Path.{_≡_, refl, sym, ap, _∙_}
+use mathlib.Core.Path.{_≡_, refl, _∙_}
 use mathlib.Core.Bool.{Bool, true, false, cond}
-use mathlib.Core.List.{List, [], _∷_, _++_, append-nil}
-use Prim.Native.Nat.{ℕ, _*_, _/_, _≤_}
+use mathlib.Core.List.{List, [], _∷_}
+use Prim.Native.Nat.{ℕ}
 use native.Mathlib.Omega.{arith}
 use borrow.Author.Tests.{eqb-true}
 use lib.Dec.{eqb}
-use lib.ListN.{length, drop, drop-of-length-le, length-set}
 use Rattle.laws.specs.Lists.{All, over}
 use Rattle.meaning.specs.Words.{Word, wordsOf, bytesOf}
 use Rattle.meaning.specs.Grants.{termsOf}
-use Rattle.meaning.specs.State.{Write, apply, applyAll}
-use Rattle.meaning.specs.Positions.{writesOf}
 use Rattle.meaning.specs.Answers.{success, settle}
 use Rattle.meaning.specs.Reader.{readAnswer, readLeaves}
-use Rattle.meaning.proofs.Bytes.{length-words, length-bytes, settle-done, settle-refused}
 use Rattle.meaning.proofs.Exactly.{accepted-cut}
 use Rattle.meaning.proofs.Calls.{Byte, words-small, left-small, words-over}
 use Rattle.irangelda.proofs.Buffers.{over-all, length-leaves}

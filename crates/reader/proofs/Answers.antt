@@ -13,14 +13,14 @@ use Rattle.laws.proofs.Tests.{holds-of}
 use Rattle.meaning.specs.declared.Kind.the-variants.{Setting}
 use Rattle.meaning.specs.declared.Answer.{Answer}
 use Rattle.meaning.specs.Words.{wordsOf, bytesOf}
-use Rattle.meaning.specs.Grants.{Terms, termsOf, mostGrants, grantsFine}
+use Rattle.meaning.specs.Grants.{termsOf, mostGrants, grantsFine}
 use Rattle.meaning.specs.State.{stateWords, wellFormed, applyAll}
 use Rattle.meaning.specs.Positions.{writesOf}
 use Rattle.meaning.specs.Answers.{badState, badGrants, answer, settle}
 use Rattle.meaning.specs.Reader.{batchAnswer, readAnswer, readLeaves}
 use Rattle.grants.specs.Kept.{Bounded, Keeps, keptAfter}
 use Rattle.grants.proofs.Keeping.{keeps}
-use Rattle.bodies.specs.Passes.{Passed, answerOf}
+use Rattle.bodies.specs.Passes.{answerOf}
 use Rattle.packets.specs.Packets.{packetsFrom}
 use Rattle.packets.proofs.Packets.{answered, wrote, same-size}
 

@@ -139,16 +139,6 @@ module _ (o : VideoOffset) (c : Cell) (e : findVideo o ≡ At c) where
   unfolding findVideo
   ordered = found-row (λ r. T (in-order r)) o c videoRows (every-all in-order videoRows tested-order) e
 
-  -- a video register's cell, and where its row ends
-  pub row-cells : (84 ≤ c .0) × (c .0 + rowFrom c ≤ 101) × (1 ≤ rowFrom c)
-  row-cells =
-      let f = ordered in
-      let low = and-yes (leb 84 (f .0 .cell .0)) _ (f .3) in
-      let high = and-yes (leb (f .0 .cell .0 + rowFrom (f .0 .cell)) 101) _ (low .1) in
-      let some = and-yes (leb 1 (rowFrom (f .0 .cell))) _ (high .1) in
-      let told : (84 ≤ f .0 .cell .0) × (f .0 .cell .0 + rowFrom (f .0 .cell) ≤ 101) × (1 ≤ rowFrom (f .0 .cell)) = (leb-yes (low .0), leb-yes (high .0), leb-yes (some .0)) in
-      rw (f .2) at told
-
   -- the registers of the row
   pub row-next : (i : ℕ) → i < rowFrom c → findVideo (record { 0 = o .0 + 4 * i }) ≡ At (cell (c .0 + i))
   row-next i h =

@@ -5,7 +5,7 @@ use mathlib.Core.List.{List, [], append-nil, _++_}
 use Prim.Native.Nat.{ℕ, _+_, _/_, _≤_, _<_}
 use native.Mathlib.Omega.{arith}
 use native.Mathlib.Numerals.{add-one}
-use lib.ListN.{length, take, drop, getD, set, drop-of-length-le}
+use lib.ListN.{length, drop, getD, set, drop-of-length-le}
 use lib.Seq.{sets, drop-cons, take-all, slice, slice-empty}
 use Rattle.laws.specs.Lists.{over}
 use Rattle.laws.proofs.Stores.{sets-over}

@@ -1,29 +1,24 @@
+-- Both registers of 02.0n have one rule; at any other sub-address no register is named.
+-- Assumes nothing.
 use Prim.Native.Nat.{_+_, _*_, _-_}
 use Rattle.bodies.proofs.Named.{stage-at, stage-none}
 use native.Mathlib.Omega.{arith}
 use borrow.Author.Needs.{needs}
 use Rattle.bodies.proofs.stage_reason.Statement.{statement}
 use Rattle.bodies.proofs.stage_reason.Tie as tie
-use Rattle.bodies.proofs.stage_reason.Reads as reads
-use Rattle.bodies.proofs.stage_reason.Lts as lts
-use Rattle.verdicts.proofs.stage_reason.Reads as stage-reason-reads
 
--- src/lib.rt:67:24
 stage-reason-requires : tie.Need-stage-reason-requires
 stage-reason-requires c κs = search needs
 
--- src/lib.rt:62:1
 returns : tie.Need-returns
 returns c =
     λ g n h.
     let a = c .before .before .before .args .address .0 in
     stage-at g _ _ _ n h (a - 0x50) (omega arith) (omega arith) (c .stage-reason .ensures g (4 + 2 * n + (a - 0x50)) (omega arith) (omega arith))
 
--- src/lib.rt:62:1
 returns-2 : tie.Need-returns-2
 returns-2 c = λ g n h. stage-none g _ _ _ n h (λ k l e. omega arith)
 
--- src/lib.rt:62:1
 returns-3 : tie.Need-returns-3
 returns-3 c = λ g n h. stage-none g _ _ _ n h (λ k l e. omega arith)
 

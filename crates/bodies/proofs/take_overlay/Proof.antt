@@ -1,14 +1,14 @@
 -- Each word is judged and stored, one register after another: to read on from here is to read the whole.
 -- Assumes nothing.
-use mathlib.Core.Path.{_≡_, ap, _∙_}
-use Prim.Native.Nat.{ℕ, _+_, _-_, _≤_, _<_}
+use mathlib.Core.Path.{_≡_, ap}
+use Prim.Native.Nat.{_+_, _-_, _≤_}
 use native.Mathlib.Omega.{arith}
 use lib.ListN.{getD}
 use lib.Seq.{slice}
 use Rattle.meaning.specs.declared.Kind.{Kind}
 use Rattle.meaning.specs.declared.Kind.the-variants.{Video}
 use Rattle.meaning.specs.Words.{wordsOf}
-use Rattle.meaning.specs.Registers.{cells, cell, registerAt}
+use Rattle.meaning.specs.Registers.{cell, registerAt}
 use Rattle.meaning.specs.Grants.{Terms}
 use Rattle.meaning.specs.State.{apply}
 use Rattle.meaning.specs.Reader.{valueReason, wordReason}

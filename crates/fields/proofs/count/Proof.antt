@@ -1,11 +1,10 @@
+-- The bits are taken as the definition takes them.
+-- Assumes nothing.
 use mathlib.Core.Path.{refl}
 use Rattle.meaning.specs.Words as parts
 use Rattle.fields.proofs.count.Statement.{statement}
 use Rattle.fields.proofs.count.Tie as tie
-use Rattle.fields.proofs.count.Reads as reads
-use Rattle.fields.proofs.count.Lts as lts
 
--- src/lib.rt:7:1
 returns : tie.Need-returns
 unfolding parts.count
 returns c = refl

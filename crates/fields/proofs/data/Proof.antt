@@ -1,11 +1,10 @@
+-- The lowest bits are a remainder.
+-- Assumes nothing.
 use native.Mathlib.Omega.{arith}
 use Rattle.meaning.specs.Words as parts
 use Rattle.fields.proofs.data.Statement.{statement}
 use Rattle.fields.proofs.data.Tie as tie
-use Rattle.fields.proofs.data.Reads as reads
-use Rattle.fields.proofs.data.Lts as lts
 
--- src/lib.rt:56:1
 returns : tie.Need-returns
 unfolding parts.data24
 returns c = omega arith

@@ -1,11 +1,10 @@
+-- The lowest bits are a remainder.
+-- Assumes nothing.
 use native.Mathlib.Omega.{arith}
 use Rattle.meaning.specs.Words as parts
 use Rattle.fields.proofs.offset.Statement.{statement}
 use Rattle.fields.proofs.offset.Tie as tie
-use Rattle.fields.proofs.offset.Reads as reads
-use Rattle.fields.proofs.offset.Lts as lts
 
--- src/lib.rt:14:1
 returns : tie.Need-returns
 unfolding parts.offset
 returns c = omega arith

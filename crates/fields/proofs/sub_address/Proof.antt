@@ -1,11 +1,10 @@
+-- The bits are taken as the definition takes them.
+-- Assumes nothing.
 use mathlib.Core.Path.{refl}
 use Rattle.meaning.specs.Words as parts
 use Rattle.fields.proofs.sub_address.Statement.{statement}
 use Rattle.fields.proofs.sub_address.Tie as tie
-use Rattle.fields.proofs.sub_address.Reads as reads
-use Rattle.fields.proofs.sub_address.Lts as lts
 
--- src/lib.rt:49:1
 returns : tie.Need-returns
 unfolding parts.subAddress
 returns c = refl

@@ -1,11 +1,10 @@
+-- The bits are taken as the definition takes them.
+-- Assumes nothing.
 use mathlib.Core.Path.{refl}
 use Rattle.meaning.specs.Words as parts
 use Rattle.fields.proofs.sub_type.Statement.{statement}
 use Rattle.fields.proofs.sub_type.Tie as tie
-use Rattle.fields.proofs.sub_type.Reads as reads
-use Rattle.fields.proofs.sub_type.Lts as lts
 
--- src/lib.rt:42:1
 returns : tie.Need-returns
 unfolding parts.paraSubType
 returns c = refl

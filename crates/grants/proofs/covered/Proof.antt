@@ -8,9 +8,6 @@ use Rattle.grants.specs.Kept.{coveredFrom}
 use Rattle.grants.proofs.Asking.{none, hit, missed, at-last, whole}
 use Rattle.grants.proofs.covered.Statement.{statement}
 use Rattle.grants.proofs.covered.Tie as tie
-use Rattle.grants.proofs.covered.Reads as reads
-use Rattle.grants.proofs.covered.Lts as lts
-use Rattle.grants.proofs.covers.Reads as covers-reads
 
 abbrev Inv-loop : tie.InvT-loop
 Inv-loop starts lasts address last i₀ i =
@@ -19,47 +16,37 @@ Inv-loop starts lasts address last i₀ i =
 abbrev μ-loop : tie.MeasureT-loop
 μ-loop starts lasts address last i₀ i = last - i
 
--- src/lib.rt:53:9
 returns : tie.Need-returns Inv-loop μ-loop
 returns c = none _ _ _ _ _ (omega arith)
 
--- src/lib.rt:55:16
 sub-last : tie.Need-sub-last Inv-loop μ-loop
 sub-last c = omega arith
 
--- src/lib.rt:57:5
 loop-holds : tie.Need-loop-holds Inv-loop μ-loop
 loop-holds c = (omega arith, omega arith, refl)
 
--- src/lib.rt:58:12
 covers-requires : tie.Need-covers-requires Inv-loop μ-loop
 covers-requires c κs = omega arith
 
--- src/lib.rt:59:13
 returns-2 : tie.Need-returns-2 Inv-loop μ-loop
 returns-2 c =
     let l = c .before .before .before in
     hit _ _ _ (omega arith) (c .before .covers .ensures) (c .if2 .taken) ∙ l .loop .inv .2 ∙ whole _ _ _ _ _ (omega arith)
 
--- src/lib.rt:61:9
 add-i : tie.Need-add-i Inv-loop μ-loop
 add-i c = omega arith
 
--- src/lib.rt:57:5
 loop-less : tie.Need-loop-less Inv-loop μ-loop
 loop-less c = omega arith
 
--- src/lib.rt:57:5
 loop-again : tie.Need-loop-again Inv-loop μ-loop
 loop-again c =
     let l = c .before .before .before in
     (omega arith, l .loop .inv .1, missed _ _ _ (omega arith) (c .before .covers .ensures) (c .if2 .left) ∙ l .loop .inv .2)
 
--- src/lib.rt:63:5
 covers-requires-2 : tie.Need-covers-requires-2 Inv-loop μ-loop
 covers-requires-2 c κs = omega arith
 
--- src/lib.rt:48:1
 returns-3 : tie.Need-returns-3 Inv-loop μ-loop
 returns-3 c =
     let l = c .before .before in

@@ -1,6 +1,6 @@
 -- The setting decides the group; what is left of it is 0.
 -- Assumes nothing.
-use mathlib.Core.Path.{_≡_, refl}
+use mathlib.Core.Path.{refl}
 use native.Mathlib.Omega.{arith}
 use Rattle.meaning.specs.Words.{wordsOf}
 use Rattle.meaning.specs.Grants.{Terms}

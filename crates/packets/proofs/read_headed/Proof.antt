@@ -1,11 +1,10 @@
 -- The offset decides the kind of packet.
 -- Assumes nothing.
 use mathlib.Core.Path.{_≡_, refl, sym, ap, _∙_}
-use mathlib.Core.Logic.{_⊎_, inl, inr}
+use mathlib.Core.Logic.{inl, inr}
 use Prim.Native.Nat.{ℕ, _+_, _≤_, _<_}
 use native.Mathlib.Omega.{arith}
 use lib.Seq.{slice}
-use Rattle.meaning.specs.declared.VideoOffset.{VideoOffset}
 use Rattle.meaning.specs.Words.{videoOffset, wordsOf}
 use Rattle.meaning.specs.Batch.{offset3D}
 use Rattle.meaning.proofs.Stretches.{kind-3D, count-small}

@@ -1,7 +1,6 @@
 -- Test by test, as the answer is told; the state is read on a copy, and only an accepted batch stores it back.
 -- Assumes nothing.
 use mathlib.Core.Path.{refl}
-use native.Mathlib.Omega.{arith}
 use Rattle.laws.proofs.Arms.{told-true, told-false}
 use Rattle.reader.proofs.Answers.{whole, kept-list, state-refused, grants-refused, own-size, batch-refused, batch-accepted}
 use borrow.Author.Needs.{needs}

@@ -1,3 +1,5 @@
+-- Each arm answers as the definition does for its group of cells.
+-- Assumes nothing.
 use Prim.Native.Nat.{_≤_}
 use native.Mathlib.Omega.{arith}
 use Rattle.laws.proofs.Arms.{spans}
@@ -5,61 +7,46 @@ use Rattle.registers.specs.Names.{nameOf, typeOf, subTypeOf, addressOf}
 use borrow.Author.Needs.{needs}
 use Rattle.registers.proofs.name_of.Statement.{statement}
 use Rattle.registers.proofs.name_of.Tie as tie
-use Rattle.registers.proofs.name_of.Reads as reads
-use Rattle.registers.proofs.name_of.Lts as lts
 
--- src/lib.rt:103:40
 cast-t6 : tie.Need-cast-t6
 cast-t6 c = search needs
 
--- src/lib.rt:103:33
 add-t7 : tie.Need-add-t7
 add-t7 c = search needs
 
--- src/lib.rt:107:18
 cast-t11 : tie.Need-cast-t11
 cast-t11 c = search needs
 
--- src/lib.rt:108:40
 cast-t14 : tie.Need-cast-t14
 cast-t14 c = search needs
 
--- src/lib.rt:108:33
 add-t15 : tie.Need-add-t15
 add-t15 c = search needs
 
--- src/lib.rt:112:25
 cast-t19 : tie.Need-cast-t19
 cast-t19 c = search needs
 
--- src/lib.rt:112:18
 add-t20 : tie.Need-add-t20
 add-t20 c = search needs
 
--- src/lib.rt:113:40
 cast-t23 : tie.Need-cast-t23
 cast-t23 c = search needs
 
--- src/lib.rt:113:33
 add-t24 : tie.Need-add-t24
 add-t24 c = search needs
 
--- src/lib.rt:89:1
 returns : tie.Need-returns
 unfolding nameOf typeOf subTypeOf addressOf
 returns c = let low : c .before .args .cell .0 ≤ 3 = omega arith in search spans
 
--- src/lib.rt:89:1
 returns-2 : tie.Need-returns-2
 unfolding nameOf typeOf subTypeOf addressOf
 returns-2 c = search spans
 
--- src/lib.rt:89:1
 returns-3 : tie.Need-returns-3
 unfolding nameOf typeOf subTypeOf addressOf
 returns-3 c = search spans
 
--- src/lib.rt:89:1
 returns-4 : tie.Need-returns-4
 unfolding nameOf typeOf subTypeOf addressOf
 returns-4 c = search spans

@@ -1,54 +1,43 @@
+-- Each arm answers as the definition does for its row of cells.
+-- Assumes nothing.
 use Rattle.laws.proofs.Arms.{spans}
 use Rattle.registers.specs.Names.{offsetOf}
 use borrow.Author.Needs.{needs}
 use Rattle.registers.proofs.offset_of.Statement.{statement}
 use Rattle.registers.proofs.offset_of.Tie as tie
-use Rattle.registers.proofs.offset_of.Reads as reads
-use Rattle.registers.proofs.offset_of.Lts as lts
 
--- src/lib.rt:124:13
 cast-c : tie.Need-cast-c
 cast-c c = search needs
 
--- src/lib.rt:126:45
 sub-t5 : tie.Need-sub-t5
 sub-t5 c = search needs
 
--- src/lib.rt:126:40
 mul-t6 : tie.Need-mul-t6
 mul-t6 c = search needs
 
--- src/lib.rt:126:31
 add-t7 : tie.Need-add-t7
 add-t7 c = search needs
 
--- src/lib.rt:127:41
 mul-t9 : tie.Need-mul-t9
 mul-t9 c = search needs
 
--- src/lib.rt:127:32
 add-t10 : tie.Need-add-t10
 add-t10 c = search needs
 
--- src/lib.rt:128:35
 mul-t12 : tie.Need-mul-t12
 mul-t12 c = search needs
 
--- src/lib.rt:128:26
 add-t13 : tie.Need-add-t13
 add-t13 c = search needs
 
--- src/lib.rt:119:1
 returns : tie.Need-returns
 unfolding offsetOf
 returns c = search spans
 
--- src/lib.rt:119:1
 returns-2 : tie.Need-returns-2
 unfolding offsetOf
 returns-2 c = search spans
 
--- src/lib.rt:119:1
 returns-3 : tie.Need-returns-3
 unfolding offsetOf
 returns-3 c = search spans

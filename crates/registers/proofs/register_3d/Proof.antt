@@ -1,117 +1,93 @@
+-- Each arm answers as the tree of type, sub-type and sub-address does.
+-- Assumes nothing.
 use Rattle.laws.proofs.Arms.{spans}
 use Rattle.registers.proofs.Tree.{tree3D, by-tree}
 use borrow.Author.Needs.{needs}
 use Rattle.registers.proofs.register_3d.Statement.{statement}
 use Rattle.registers.proofs.register_3d.Tie as tie
-use Rattle.registers.proofs.register_3d.Reads as reads
-use Rattle.registers.proofs.register_3d.Lts as lts
 
--- src/lib.rt:28:48
 add-t11 : tie.Need-add-t11
 add-t11 c = search needs
 
--- src/lib.rt:28:47
 cast-t12 : tie.Need-cast-t12
 cast-t12 c = search needs
 
--- src/lib.rt:35:52
 mul-t18 : tie.Need-mul-t18
 mul-t18 c = search needs
 
--- src/lib.rt:35:48
 add-t19 : tie.Need-add-t19
 add-t19 c = search needs
 
--- src/lib.rt:35:48
 add-t21 : tie.Need-add-t21
 add-t21 c = search needs
 
--- src/lib.rt:35:47
 cast-t22 : tie.Need-cast-t22
 cast-t22 c = search needs
 
--- src/lib.rt:39:53
 mul-t27 : tie.Need-mul-t27
 mul-t27 c = search needs
 
--- src/lib.rt:39:48
 add-t28 : tie.Need-add-t28
 add-t28 c = search needs
 
--- src/lib.rt:39:48
 add-t30 : tie.Need-add-t30
 add-t30 c = search needs
 
--- src/lib.rt:39:47
 cast-t31 : tie.Need-cast-t31
 cast-t31 c = search needs
 
--- src/lib.rt:20:1
 returns : tie.Need-returns
 unfolding tree3D
 returns c = by-tree _ _ _ (search spans)
 
--- src/lib.rt:20:1
 returns-2 : tie.Need-returns-2
 unfolding tree3D
 returns-2 c = by-tree _ _ _ (search spans)
 
--- src/lib.rt:20:1
 returns-3 : tie.Need-returns-3
 unfolding tree3D
 returns-3 c = by-tree _ _ _ (search spans)
 
--- src/lib.rt:20:1
 returns-4 : tie.Need-returns-4
 unfolding tree3D
 returns-4 c = by-tree _ _ _ (search spans)
 
--- src/lib.rt:20:1
 returns-5 : tie.Need-returns-5
 unfolding tree3D
 returns-5 c = by-tree _ _ _ (search spans)
 
--- src/lib.rt:20:1
 returns-6 : tie.Need-returns-6
 unfolding tree3D
 returns-6 c = by-tree _ _ _ (search spans)
 
--- src/lib.rt:20:1
 returns-7 : tie.Need-returns-7
 unfolding tree3D
 returns-7 c = by-tree _ _ _ (search spans)
 
--- src/lib.rt:20:1
 returns-8 : tie.Need-returns-8
 unfolding tree3D
 returns-8 c = by-tree _ _ _ (search spans)
 
--- src/lib.rt:20:1
 returns-9 : tie.Need-returns-9
 unfolding tree3D
 returns-9 c = by-tree _ _ _ (search spans)
 
--- src/lib.rt:20:1
 returns-10 : tie.Need-returns-10
 unfolding tree3D
 returns-10 c = by-tree _ _ _ (search spans)
 
--- src/lib.rt:20:1
 returns-11 : tie.Need-returns-11
 unfolding tree3D
 returns-11 c = by-tree _ _ _ (search spans fits 20000)
 
--- src/lib.rt:20:1
 returns-12 : tie.Need-returns-12
 unfolding tree3D
 returns-12 c = by-tree _ _ _ (search spans fits 20000)
 
--- src/lib.rt:20:1
 returns-13 : tie.Need-returns-13
 unfolding tree3D
 returns-13 c = by-tree _ _ _ (search spans)
 
--- src/lib.rt:20:1
 returns-14 : tie.Need-returns-14
 unfolding tree3D
 returns-14 c = by-tree _ _ _ (search spans)

@@ -1,6 +1,5 @@
 -- The invariant: the words that are left, stored over the state as it is now, leave the words of the bytes.
 -- Assumes nothing.
-use mathlib.Core.Path.{_≡_}
 use Prim.Native.Nat.{_≤_, _-_}
 use native.Mathlib.Omega.{arith}
 use Rattle.meaning.specs.Words.{wordsOf}
