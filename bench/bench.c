@@ -1,12 +1,11 @@
 /*
  * Calls one of the three calls a given number of times on one of the bench's inputs: bench WHO LINE TIMES. WHO is `ours` (the
- * archive), `careful` (careful.c), `tuned` (tuned.c) or `nothing` (functions that return at once, so that what the loop itself needs
- * can be taken off). bench/run counts the instructions from outside.
+ * archive), `careful` (tests/reference/careful.c) or `nothing` (functions that return at once, so that what the loop itself needs can
+ * be taken off). bench/run counts the instructions from outside.
  */
 #include "../include/irangelda.h"
-#include "../tests/c/nothing.h"
-#include "careful.h"
-#include "tuned.h"
+#include "../tests/reference/careful.h"
+#include "../tests/reference/nothing.h"
 #include <stdio.h>
 #include <stdlib.h>
 #include <string.h>
@@ -25,7 +24,6 @@ struct calls {
 static const struct calls all_calls[] = {
     { "ours", irangelda_read, irangelda_write, irangelda_list },
     { "careful", careful_read, careful_write, careful_list },
-    { "tuned", tuned_read, tuned_write, tuned_list },
     { "nothing", nothing_of_six, nothing_of_six, nothing_of_four }
 };
 

@@ -7,6 +7,6 @@ void registers(void);  /* every register lands in its cell; every must-be-clear 
 void writings(void);   /* the writer's exact words and the lister's exact bytes; there and back */
 void borders(void);    /* every kind of word at places where pieces might begin */
 void limits(void);     /* lengths around reason 13's limits, and the order of 13, 1 and 2 */
-void made_up(void);    /* many made-up calls, on which the archive, careful.c and tuned.c agree */
+void made_up(void);    /* many made-up calls, on which the archive and careful.c agree */
 
 #endif

@@ -1,10 +1,9 @@
 #define _GNU_SOURCE
 #include "lent.h"
-#include "../../bench/careful.h"
-#include "../../bench/tuned.h"
 #include "../../include/irangelda.h"
+#include "../reference/careful.h"
+#include "../reference/nothing.h"
 #include "check.h"
-#include "nothing.h"
 #include <stdio.h>
 #include <stdlib.h>
 #include <string.h>
@@ -15,8 +14,7 @@ enum { PAGE = 4096, GUARD = 64, GUARD_BYTE = 0x5c, PAINT = 0xa5, STACK_BYTES = 4
 
 const struct party parties[PARTIES] = {
     [ARCHIVE] = { "archive", irangelda_read, irangelda_write, irangelda_list },
-    [CAREFUL] = { "careful", careful_read, careful_write, careful_list },
-    [TUNED] = { "tuned", tuned_read, tuned_write, tuned_list }
+    [CAREFUL] = { "careful", careful_read, careful_write, careful_list }
 };
 
 const char *const kind_names[KINDS] = { "read", "write", "list" };

@@ -31,7 +31,7 @@ struct outcome {
     uint8_t after[MOST_LENT];
 };
 
-/* Who answers: the archive, which is what is tested, and the two C versions of the bench, careful.c and tuned.c. */
+/* Who answers: the archive, which is what is tested, and the C version of the reference folder, careful.c. */
 struct party {
     const char *name;
     uint64_t (*read)(const uint8_t *, size_t, const uint8_t *, size_t, uint8_t *, size_t);
@@ -39,7 +39,7 @@ struct party {
     uint64_t (*list)(const uint8_t *, size_t, uint8_t *, size_t);
 };
 
-enum { ARCHIVE, CAREFUL, TUNED, PARTIES };
+enum { ARCHIVE, CAREFUL, PARTIES };
 extern const struct party parties[PARTIES];
 extern const char *const kind_names[KINDS];
 

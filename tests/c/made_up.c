@@ -32,7 +32,7 @@ static void count_answer(enum kind kind, uint64_t answer)
         given[kind][answer % 256]++;
 }
 
-/* Another party gives the archive's answer and leaves the archive's bytes. */
+/* The other party gives the archive's answer and leaves the archive's bytes. */
 static void agrees(const struct party *party, const struct request *request)
 {
     const char *kind = kind_names[request->kind];
@@ -43,12 +43,11 @@ static void agrees(const struct party *party, const struct request *request)
     expect(memcmp(ours.after, theirs.after, ours.length) == 0, "made-up %s: archive and %s leave different bytes", kind, party->name);
 }
 
-static void all_agree(const struct request *request)
+static void both_agree(const struct request *request)
 {
     perform(&parties[ARCHIVE], request, &ours);
     count_answer(request->kind, ours.answer);
     agrees(&parties[CAREFUL], request);
-    agrees(&parties[TUNED], request);
 }
 
 /* Now and then a few bytes more or fewer. */
@@ -98,7 +97,7 @@ static void made_up_read(void)
     put_words(batch_bytes, batch.word, batch.words);
     request.lent[0].length = some_length(4 * batch.words, sizeof batch_bytes);
     request.lent[2] = state_lent(30);
-    all_agree(&request);
+    both_agree(&request);
 }
 
 /* The room that careful.c says is needed, where it says so. */
@@ -154,7 +153,7 @@ static void made_up_write(void)
     request.lent[0] = state_lent(3);
     request.lent[2].length = some_length(some_room(&request, 4), sizeof out_bytes);
     fill_room(request.lent[2].length);
-    all_agree(&request);
+    both_agree(&request);
     if (ours.answer % 256 == IRANGELDA_OK && ours.answer / 256 * 4 <= IRANGELDA_WRITE_BYTES_ENOUGH)
         reads_back(&request);
 }
@@ -165,7 +164,7 @@ static void made_up_list(void)
     struct request request = { LIST, { state_lent(3), { NULL, 0 }, { out_bytes, 0 } } };
     request.lent[2].length = some_room(&request, 1);
     fill_room(request.lent[2].length);
-    all_agree(&request);
+    both_agree(&request);
 }
 
 static void print_counts(void)

@@ -1,6 +1,6 @@
 /*
- * The three calls once more, as a careful C programmer writes them: the measure that the bench holds the archive to, and a second
- * opinion for the tests. include/irangelda.h says what the calls do; nothing else is shared with the archive or with tuned.c.
+ * The three calls once more, as a careful C programmer writes them: the second opinion that tests/c holds the archive to, and the
+ * measure of the bench. include/irangelda.h says what the calls do; nothing else is shared with the archive.
  */
 #ifndef CAREFUL_H
 #define CAREFUL_H

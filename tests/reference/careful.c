@@ -1,6 +1,6 @@
 /*
  * The three calls as a careful C programmer writes them, from document 01 alone: its rules in its order and words, each reason
- * returned where it is found. The shape is one that is quick, and the rest is left to the compiler; tuned.c goes further by hand.
+ * returned where it is found. The shape is one that is quick, and the rest is left to the compiler.
  *
  * The reader goes through the batch once, works on a copy of the state and hands the copy back only when the whole batch was fine.
  * The writer and the lister have checked everything, the room too, before they put down the first byte. So a refusal changes nothing.
