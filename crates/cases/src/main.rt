@@ -1,17 +1,16 @@
-// Runs the reader, writer and lister beside second ones that share nothing with them: on document 01's
-// cases, on both sides of every row of its table, and on made-up batches that start valid and are
-// damaged in one place. It prints how many calls each family made and how many answers or buffers
-// differed, and how often each reason was told.
+// Runs the reader and the lister on the cases of a page, its standard input, where every answer stands too: document
+// 01's cases, both sides of every row of its table, fields gone through code by code, and listings. Of the reader it
+// has no rule of its own; beside the lister runs a second one that shares nothing with it, on every state that a case
+// leaves. It prints how many calls each family made and how many answers or buffers were not as expected, and how often
+// each reason was told.
 mod calls;
 mod desk;
-mod families;
+mod listing;
 mod page;
-mod second;
-mod table;
 mod tally;
 
 fn main() {
-    let mut desk = [[0u32; 1024]; 14];
+    let mut desk = [[0u8; 4096]; 12];
     let mut bytes = io::large_buffer();
     let n = io::read_full(0, &mut bytes);
     page::run_page(&mut desk, &bytes[..n]);

@@ -1,28 +1,27 @@
-// The page: what the program reads from standard input, and its only table of cases. A family has a
-// line with its name, and below it lines with its cases, each in up to four parts with `|` between:
+// The page: what the program reads from standard input, and its only table of cases. A family has a line with its
+// name, and below it lines with its cases, each in up to four parts with `|` between:
 //
 //   reason place | cell value .. | grants | batch
 //       A case written by hand, with what it stores.
 //   ~ times word shift width, reason place, reason place | low high .. | grants | batch
-//       Every code of a field of that word of the batch: the first answer for a code that is not listed,
-//       the second for one that is; reason 99 states none. A shift of 99 changes one bit, the code's.
-//       The same again for the next sub-type, that many times.
-//   % | | grants | batch
-//       A batch that is accepted: every prefix of it, and every bit of it changed.
+//       Every code of a field of that word of the batch: the first answer for a code that is not listed, the second
+//       for one that is; reason 99 states that it is not the other one. A shift of 99 changes one bit, the code's,
+//       of as many as the width says. The same again for the next sub-type, that many times.
 //   + | | | batch
-//       A packet for the pool that made-up batches are made of. The first 16 need no grant.
-//   * kind cases | | grants | batch
-//       So many cases of a kind that is made from a number.
+//       A packet that needs no grant. The first 16 stand in front of the cases written by hand.
+//   * list reason most | | grants
+//       Every length below the most of the state (list 1) or of the grants (list 6), with the reason of a wrong one.
 //   > | cell value ..
 //       A state, with its listing on the lines below, up to an empty one: in every room.
 //
 // A number of six digits or more is hex, a shorter one decimal. Other lines say nothing.
+use super::calls::answer;
 use super::desk::BATCH;
 use super::desk::Desk;
 use super::desk::GRANTS;
-use super::desk::KEPT_BATCH;
-use super::desk::KEPT_GRANTS;
+use super::desk::KEPT;
 use super::desk::LINE;
+use super::desk::LISTED;
 use super::desk::POOL;
 use super::desk::RIGHT;
 use super::desk::STARTS;
@@ -39,17 +38,14 @@ use super::desk::plus;
 use super::desk::push;
 use super::desk::push_part;
 use super::desk::put;
+use super::desk::put_byte;
 use super::desk::shifted;
 use super::desk::sum;
-use super::desk::throw;
-use super::families::one_case;
-use super::families::push_packet;
-use super::families::some_state;
-use super::second::answer;
 use super::tally::UNSTATED;
 use super::tally::begin_case;
 use super::tally::begin_family;
 use super::tally::begin_line;
+use super::tally::check_list;
 use super::tally::check_read;
 use super::tally::check_stored;
 use super::tally::check_text;
@@ -121,8 +117,7 @@ fn take_line(desk: &mut Desk, page: &[u8], start: usize, end: usize) {
     fill(desk, BATCH, 0, 0);
     fill(desk, STATE, 0, 202);
     take_numbers(desk, page, start, end);
-    copy(desk, GRANTS, KEPT_GRANTS);
-    copy(desk, BATCH, KEPT_BATCH);
+    copy(desk, BATCH, KEPT);
 }
 
 fn byte_at(page: &[u8], i: usize) -> u8 {
@@ -159,12 +154,25 @@ fn stated(desk: &Desk, front: usize) -> u64 {
     stated_behind(at(desk, LINE, 0), at(desk, LINE, 1), front)
 }
 
-// The case alone, by a state in which of each four cells as many are marked as share says.
-fn case_alone(desk: &mut Desk, share: u32) {
-    some_state(desk, share);
-    check_read(desk, stated(desk, 0));
+// The case alone, on the state that is there.
+fn case_alone(desk: &mut Desk) {
     leave(desk);
     check_stored(desk, stated(desk, 0));
+}
+
+// Every cell is marked, and has a value of its own.
+fn full_state(desk: &mut Desk) {
+    for cell in 0..101usize {
+        put(desk, STATE, cell, narrow(cell * 0x01234567));
+        put(desk, STATE, cell + 101, 1);
+    }
+}
+
+// Adds that packet of the pool.
+fn push_packet(desk: &mut Desk, packet: usize) {
+    let start = at(desk, STARTS, packet) as usize;
+    let words = (at(desk, POOL, start) >> 16) as usize;
+    push_part(desk, POOL, start, plus(plus(start, words), 1), BATCH);
 }
 
 // Whole packets of the pool that any grants permit.
@@ -180,14 +188,14 @@ fn push_front(desk: &mut Desk, packets: u32) {
 fn case_behind(desk: &mut Desk, packets: u32) {
     push_front(desk, packets);
     let front = len(desk, BATCH);
-    push_part(desk, KEPT_BATCH, 0, len(desk, KEPT_BATCH), BATCH);
-    check_read(desk, stated(desk, front));
+    push_part(desk, KEPT, 0, len(desk, KEPT), BATCH);
+    check_read(desk, stated(desk, front), UNSTATED);
 }
 
 fn written(desk: &mut Desk) {
-    throw(desk, 1);
-    case_alone(desk, 0);
-    case_alone(desk, 4);
+    case_alone(desk);
+    full_state(desk);
+    case_alone(desk);
     for packets in 1..33u32 {
         begin_case(desk, packets);
         case_behind(desk, packets);
@@ -217,14 +225,20 @@ fn stated_as(reason: u32, place: u32) -> u64 {
     }
 }
 
-// The line's second answer for a code that is listed, and else its first.
-fn stated_for(desk: &Desk, code: u32) -> u64 {
-    let i = if is_listed(desk, code) {
-        6usize
-    } else {
-        4usize
-    };
+// The answer that stands in that place of the line, and in the next.
+fn stated_at(desk: &Desk, i: usize) -> u64 {
     stated_as(at(desk, LINE, i), at(desk, LINE, plus(i, 1)))
+}
+
+// The case with that code of the field: the line's second answer where it is listed, and else its first.
+fn check_code(desk: &mut Desk, code: u32) {
+    let unlisted = stated_at(desk, 4);
+    let listed = stated_at(desk, 6);
+    if is_listed(desk, code) {
+        check_read(desk, listed, unlisted);
+    } else {
+        check_read(desk, unlisted, listed);
+    }
 }
 
 fn with_code(word: u32, code: u32, shift: u32) -> u32 {
@@ -241,9 +255,17 @@ fn sweep_codes(desk: &mut Desk, i: usize, codes: u32) {
     for code in 0..codes {
         begin_case(desk, code);
         put(desk, BATCH, i, with_code(word, code, at(desk, LINE, 2)));
-        check_read(desk, stated_for(desk, code));
+        check_code(desk, code);
     }
     put(desk, BATCH, i, word);
+}
+
+fn codes_of(shift: u32, width: u32) -> u32 {
+    if shift == 99 {
+        width
+    } else {
+        shifted(1, width)
+    }
 }
 
 // Every code of the field, under as many sub-types as the line says.
@@ -253,48 +275,34 @@ fn sweep(desk: &mut Desk) {
         sweep_codes(
             desk,
             at(desk, LINE, 1) as usize,
-            shifted(1, at(desk, LINE, 3)),
+            codes_of(at(desk, LINE, 2), at(desk, LINE, 3)),
         );
         let setting = at(desk, BATCH, 1);
         put(desk, BATCH, 1, sum(setting, 0x01000000));
     }
 }
 
-// The batch at every length, from its own down to 0.
-fn every_prefix(desk: &mut Desk) {
-    let whole = len(desk, BATCH);
-    check_read(desk, answer(0, whole));
-    for gone in 0..whole {
-        cut(desk, BATCH, minus(whole, plus(gone, 1)));
-        check_read(desk, UNSTATED);
-    }
-    cut(desk, BATCH, whole);
-}
-
-// The word with each of its bits changed.
-fn every_bit_of(desk: &mut Desk, i: usize) {
-    let word = at(desk, BATCH, i);
-    for b in 0..32u32 {
-        put(desk, BATCH, i, word ^ shifted(1, b));
-        check_read(desk, UNSTATED);
-    }
-    put(desk, BATCH, i, word);
-}
-
-fn every_bit(desk: &mut Desk) {
-    let n = len(desk, BATCH);
-    for i in 0..n {
-        begin_case(desk, narrow(i));
-        every_bit_of(desk, i);
+// A state has 202 words; a list of grants whole grants, up to 64.
+fn is_whole(list: usize, n: u32) -> bool {
+    if list == STATE {
+        n == 202
+    } else {
+        n % 4 == 0 && n <= 256
     }
 }
 
-fn run_kind(desk: &mut Desk) {
-    let kind = at(desk, LINE, 0);
-    let cases = at(desk, LINE, 1);
-    for k in 0..cases {
-        begin_case(desk, k);
-        one_case(desk, kind, k);
+fn length_answer(list: usize, n: u32, reason: u32) -> u64 {
+    answer(if is_whole(list, n) { 0 } else { reason }, 0)
+}
+
+fn lengths(desk: &mut Desk) {
+    let list = at(desk, LINE, 0) as usize;
+    let reason = at(desk, LINE, 1);
+    let most = at(desk, LINE, 2);
+    for n in 0..most {
+        begin_case(desk, n);
+        cut(desk, list, n as usize);
+        check_read(desk, length_answer(list, n, reason), UNSTATED);
     }
 }
 
@@ -314,19 +322,21 @@ fn listing_end(page: &[u8], start: usize) -> usize {
     n
 }
 
-fn room_answer(room: usize, n: usize) -> u64 {
-    if room < n {
-        answer(11, 0)
-    } else {
-        answer(0, n)
+// The bytes of a room after the listing: the text, and what was there.
+fn lay_text(desk: &mut Desk, text: &[u8]) {
+    fill(desk, KEPT, 0xa5, 0);
+    let n = text.len();
+    for i in 0..n {
+        put_byte(desk, KEPT, i, text[i]);
     }
 }
 
-// The text is the state's listing, in every room up to the largest.
+// The text is the state's listing; and the two listers agree in every room.
 fn check_rooms(desk: &mut Desk, text: &[u8]) {
-    let n = text.len();
+    lay_text(desk, text);
+    check_text(desk, text.len());
     for room in 0..2701usize {
-        check_text(desk, text, room, room_answer(room, n));
+        check_list(desk, room);
     }
 }
 
@@ -341,7 +351,7 @@ fn check_part(desk: &mut Desk, page: &[u8], start: usize, end: usize) {
 // The state with the line's cells is listed as the lines below.
 fn listing(desk: &mut Desk, page: &[u8], start: usize) {
     leave(desk);
-    copy(desk, RIGHT, STATE);
+    copy(desk, RIGHT, LISTED);
     check_part(desk, page, start, listing_end(page, start));
 }
 
@@ -354,12 +364,8 @@ fn next_family(desk: &mut Desk, page: &[u8], start: usize, end: usize) {
 fn run_taken(desk: &mut Desk, page: &[u8], byte: u8, end: usize) {
     match byte {
         b'~' => sweep(desk),
-        b'%' => {
-            every_prefix(desk);
-            every_bit(desk);
-        }
         b'+' => add_to_pool(desk),
-        b'*' => run_kind(desk),
+        b'*' => lengths(desk),
         b'>' => listing(desk, page, end),
         _ => written(desk),
     }
@@ -371,7 +377,7 @@ fn run_line(desk: &mut Desk, page: &[u8], start: usize, end: usize) {
     let byte = byte_at(page, start);
     match byte {
         b'=' => next_family(desk, page, plus(start, 2), minus(end, 1)),
-        b'~' | b'%' | b'+' | b'*' | b'>' | b'0'..=b'9' => {
+        b'~' | b'+' | b'*' | b'>' | b'0'..=b'9' => {
             take_line(desk, page, start, end);
             run_taken(desk, page, byte, end);
         }

@@ -1,22 +1,22 @@
-// What is counted and told: calls and differences of the family at work, calls by reason, and a line
-// for each of a family's first differences.
+// What is counted and told: calls and differences of the family at work, calls by reason, and a line for each of a
+// family's first differences.
 use super::calls;
-use super::calls::Text;
-use super::desk::BATCH;
 use super::desk::COUNTS;
 use super::desk::Desk;
+use super::desk::KEPT;
 use super::desk::LEFT;
+use super::desk::LISTED;
 use super::desk::RIGHT;
 use super::desk::STATE;
 use super::desk::at;
 use super::desk::copy;
-use super::desk::cut;
 use super::desk::fill;
+use super::desk::minus;
 use super::desk::narrow;
 use super::desk::put;
 use super::desk::same;
 use super::desk::sum;
-use super::second;
+use super::listing;
 use libc::STDOUT_FILENO;
 
 // Where COUNTS has what. Calls by reason stand at 0 to 15.
@@ -34,7 +34,7 @@ const NAME_START: usize = 21;
 
 const NAME_END: usize = 22;
 
-// Stands for an answer where none is stated by hand.
+// Stands for an answer that the page does not state.
 pub(super) const UNSTATED: u64 = 0xffffffffffffffff;
 
 fn add_one(desk: &mut Desk, i: usize) {
@@ -76,127 +76,92 @@ fn say_answer(key: &[u8], told: u64) {
     say(b" at ", told / 256);
 }
 
-fn tell_difference(desk: &Desk, first: u64, other: u64, fault: u32) {
-    say_count(desk, b"difference, in the family below: line=", LINE_NUMBER);
-    say_count(desk, b" case=", CASE);
-    say(b" fault=", fault as u64);
-    say_answer(b" first=", first);
-    say_answer(b" other=", other);
-    end_line();
-}
-
 // Counts a difference; a family's first five are told.
-fn note_difference(desk: &mut Desk, first: u64, other: u64, fault: u32) {
+fn note_difference(desk: &mut Desk, told: u64, expected: u64) {
     add_one(desk, DIFFERENCES);
     add_one(desk, ALL_DIFFERENCES);
     if at(desk, COUNTS, DIFFERENCES) < 6 {
-        tell_difference(desk, first, other, fault);
+        say_count(desk, b"difference, in the family below: line=", LINE_NUMBER);
+        say_count(desk, b" case=", CASE);
+        say_answer(b" told=", told);
+        say_answer(b" expected=", expected);
+        end_line();
     }
 }
 
-// Counts a call by the first one's answer. A fault of 0 is none; else its bits say what differed.
-fn note(desk: &mut Desk, first: u64, other: u64, fault: u32) {
+fn note(desk: &mut Desk, told: u64, expected: u64, fine: bool) {
     add_one(desk, CALLS);
-    add_one(desk, (first % 16) as usize);
-    if fault != 0 {
-        note_difference(desk, first, other, fault);
+    add_one(desk, (told % 16) as usize);
+    if !fine {
+        note_difference(desk, told, expected);
     }
 }
 
-fn bit_if(bad: bool, bit: u32) -> u32 {
-    if bad { bit } else { 0 }
+// The stated answer; or, where none is stated, any but the other one of the line.
+fn is_as_stated(told: u64, stated: u64, other: u64) -> bool {
+    if stated == UNSTATED {
+        told != other
+    } else {
+        told == stated
+    }
 }
 
-// 1: the answers differ; 2: a buffer differs; 4: not what is stated by hand; 8: a refusal changed a buffer.
-fn fault_of(first: u64, other: u64, alike: bool, stated: u64, untouched: bool) -> u32 {
-    let unlike = stated != UNSTATED && stated != first;
-    let changed = first % 256 != 0 && !untouched;
-    bit_if(first != other, 1) | bit_if(!alike, 2) | bit_if(unlike, 4) | bit_if(changed, 8)
+// The first lister beside the second, each in a buffer of A5h, of which it may change so many bytes.
+pub(super) fn check_list(desk: &mut Desk, room: usize) -> u64 {
+    fill(desk, LEFT, 0xa5, 0);
+    fill(desk, RIGHT, 0xa5, 0);
+    let told = calls::list(desk, room);
+    let other = listing::list(desk, room);
+    let fine = told == other && same(desk, LEFT, RIGHT);
+    note(desk, told, other, fine);
+    told
 }
 
-// The first reader beside the second, and beside what is stated by hand.
-pub(super) fn check_read(desk: &mut Desk, stated: u64) {
+// The state at LEFT listed: in room enough, in just enough, in one byte less, and with a word changed.
+fn check_lists(desk: &mut Desk) {
+    copy(desk, LEFT, LISTED);
+    let told = check_list(desk, 2700);
+    let n = (told / 256) as usize;
+    check_list(desk, n);
+    check_list(desk, minus(n, 1));
+    put(desk, LISTED, at(desk, COUNTS, CALLS) as usize % 202, 256);
+    check_list(desk, 2700);
+}
+
+// Counts a read; the state that an accepted batch left is listed.
+fn note_read(desk: &mut Desk, told: u64, stated: u64, fine: bool) {
+    note(desk, told, stated, fine);
+    if told % 256 == 0 {
+        check_lists(desk);
+    }
+}
+
+// The reader's answer is as stated, and a refusal leaves the state.
+pub(super) fn check_read(desk: &mut Desk, stated: u64, other: u64) {
     copy(desk, STATE, LEFT);
-    copy(desk, STATE, RIGHT);
-    let first = calls::read(desk);
-    let other = second::read(desk);
-    let fault = fault_of(
-        first,
-        other,
-        same(desk, LEFT, RIGHT),
+    let told = calls::read(desk);
+    let kept = told % 256 == 0 || same(desk, LEFT, STATE);
+    note_read(
+        desk,
+        told,
         stated,
-        same(desk, LEFT, STATE),
+        kept && is_as_stated(told, stated, other),
     );
-    note(desk, first, other, fault);
 }
 
-// The first reader beside an answer, and beside the state at RIGHT, both stated by hand.
+// The reader's answer is the stated one, and it leaves the state at RIGHT.
 pub(super) fn check_stored(desk: &mut Desk, stated: u64) {
     copy(desk, STATE, LEFT);
-    let first = calls::read(desk);
-    let fault = fault_of(first, stated, same(desk, LEFT, RIGHT), stated, true);
-    note(desk, first, stated, fault);
+    let told = calls::read(desk);
+    let fine = told == stated && same(desk, LEFT, RIGHT);
+    note_read(desk, told, stated, fine);
 }
 
-// The words that the writer left, read from the empty state.
-fn check_read_back(desk: &mut Desk, told: u64) {
-    copy(desk, LEFT, BATCH);
-    cut(desk, BATCH, (told / 256) as usize);
-    copy(desk, STATE, RIGHT);
-    fill(desk, STATE, 0, 202);
-    check_stored(desk, told);
-}
-
-// The first writer beside the second, with that room. What it wrote is read back.
-pub(super) fn check_write(desk: &mut Desk, room: usize, stated: u64) {
-    fill(desk, LEFT, 0x5a5a5a5a, room);
-    copy(desk, LEFT, RIGHT);
-    copy(desk, LEFT, BATCH);
-    let first = calls::write(desk);
-    let other = second::write(desk);
-    let fault = fault_of(
-        first,
-        other,
-        same(desk, LEFT, RIGHT),
-        stated,
-        same(desk, LEFT, BATCH),
-    );
-    note(desk, first, other, fault);
-    if first % 256 == 0 {
-        check_read_back(desk, first);
-    }
-}
-
-// What stands at i after a listing in a room of A5h: the text, if there was room for it.
-fn byte_after(text: &[u8], i: usize, told: bool) -> u8 {
-    if told {
-        if i < text.len() {
-            return text[i];
-        }
-    }
-    0xa5
-}
-
-fn is_listing(out: &Text, text: &[u8], told: bool) -> bool {
-    let mut apart = 0u8;
-    for i in 0..2700usize {
-        apart = apart | (out[i] ^ byte_after(text, i, told));
-    }
-    apart == 0
-}
-
-// The first lister beside an answer and a text that are stated by hand.
-pub(super) fn check_text(desk: &mut Desk, text: &[u8], room: usize, stated: u64) {
-    let mut out = [0xa5u8; 2700];
-    let first = calls::list(desk, &mut out, room);
-    let fault = fault_of(
-        first,
-        stated,
-        is_listing(&out, text, stated % 256 == 0),
-        stated,
-        true,
-    );
-    note(desk, first, stated, fault);
+// The lister makes the text at KEPT, of so many bytes.
+pub(super) fn check_text(desk: &mut Desk, n: usize) {
+    let told = check_list(desk, 2700);
+    let fine = told == calls::answer(0, n) && same(desk, LEFT, KEPT);
+    note(desk, told, calls::answer(0, n), fine);
 }
 
 // What stands on the page from start to end.
@@ -227,15 +192,11 @@ pub(super) fn end_family(desk: &Desk, page: &[u8]) {
     }
 }
 
-fn tell_reason(desk: &Desk, reason: usize) {
-    say(b"reason=", reason as u64);
-    say_count(desk, b" calls=", reason);
-    end_line();
-}
-
 pub(super) fn tell_reasons(desk: &Desk) {
-    for reason in 0..13usize {
-        tell_reason(desk, reason);
+    for reason in 0..12usize {
+        say(b"reason=", reason as u64);
+        say_count(desk, b" calls=", reason);
+        end_line();
     }
 }
 

@@ -4,19 +4,22 @@ use Rattle.cases.proofs.page.check_rooms.Statement.{statement}
 use Rattle.cases.proofs.page.check_rooms.Tie as tie
 
 abbrev Inv-loop : tie.InvT-loop
-Inv-loop desk₀ text n room₀ desk room = Unit
+Inv-loop desk₀ text room₀ desk room = Unit
 
 abbrev μ-loop : tie.MeasureT-loop
-μ-loop desk₀ text n room₀ desk room = 2701 - room
+μ-loop desk₀ text room₀ desk room = 2701 - room
+
+lay-text-requires : tie.Need-lay-text-requires Inv-loop μ-loop
+lay-text-requires c κs = search needs
+
+check-text-requires : tie.Need-check-text-requires Inv-loop μ-loop
+check-text-requires c κs = search needs
 
 loop-holds : tie.Need-loop-holds Inv-loop μ-loop
 loop-holds c = search needs
 
-room-answer-requires : tie.Need-room-answer-requires Inv-loop μ-loop
-room-answer-requires c κs = search needs
-
-check-text-requires : tie.Need-check-text-requires Inv-loop μ-loop
-check-text-requires c κs = search needs
+check-list-requires : tie.Need-check-list-requires Inv-loop μ-loop
+check-list-requires c κs = search needs
 
 add-room : tie.Need-add-room Inv-loop μ-loop
 add-room c = search needs
@@ -36,9 +39,10 @@ check-rooms-spec =
     (tie.spec
     Inv-loop
     μ-loop
-    loop-holds
-    room-answer-requires
+    lay-text-requires
     check-text-requires
+    loop-holds
+    check-list-requires
     add-room
     loop-less
     loop-again

@@ -24,14 +24,17 @@ cast-sweep-codes c = search needs
 at-requires-3 : tie.Need-at-requires-3 Inv-loop μ-loop
 at-requires-3 c κs = search needs
 
-shifted-requires : tie.Need-shifted-requires Inv-loop μ-loop
-shifted-requires c κs = search needs
+at-requires-4 : tie.Need-at-requires-4 Inv-loop μ-loop
+at-requires-4 c κs = search needs
+
+codes-of-requires : tie.Need-codes-of-requires Inv-loop μ-loop
+codes-of-requires c κs = search needs
 
 sweep-codes-requires : tie.Need-sweep-codes-requires Inv-loop μ-loop
 sweep-codes-requires c κs = search needs
 
-at-requires-4 : tie.Need-at-requires-4 Inv-loop μ-loop
-at-requires-4 c κs = search needs
+at-requires-5 : tie.Need-at-requires-5 Inv-loop μ-loop
+at-requires-5 c κs = search needs
 
 sum-requires : tie.Need-sum-requires Inv-loop μ-loop
 sum-requires c κs = search needs
@@ -62,9 +65,10 @@ sweep-spec =
     at-requires-2
     cast-sweep-codes
     at-requires-3
-    shifted-requires
-    sweep-codes-requires
     at-requires-4
+    codes-of-requires
+    sweep-codes-requires
+    at-requires-5
     sum-requires
     put-requires
     add-n

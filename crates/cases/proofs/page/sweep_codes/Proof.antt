@@ -27,11 +27,8 @@ with-code-requires c κs = search needs
 put-requires : tie.Need-put-requires Inv-loop μ-loop
 put-requires c κs = search needs
 
-stated-for-requires : tie.Need-stated-for-requires Inv-loop μ-loop
-stated-for-requires c κs = search needs
-
-check-read-requires : tie.Need-check-read-requires Inv-loop μ-loop
-check-read-requires c κs = search needs
+check-code-requires : tie.Need-check-code-requires Inv-loop μ-loop
+check-code-requires c κs = search needs
 
 add-code : tie.Need-add-code Inv-loop μ-loop
 add-code c = search needs
@@ -60,8 +57,7 @@ sweep-codes-spec =
     at-requires-2
     with-code-requires
     put-requires
-    stated-for-requires
-    check-read-requires
+    check-code-requires
     add-code
     loop-less
     loop-again

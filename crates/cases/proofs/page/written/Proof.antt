@@ -9,11 +9,11 @@ Inv-loop desk₀ packets₀ desk packets = Unit
 abbrev μ-loop : tie.MeasureT-loop
 μ-loop desk₀ packets₀ desk packets = 33 - packets
 
-throw-requires : tie.Need-throw-requires Inv-loop μ-loop
-throw-requires c κs = search needs
-
 case-alone-requires : tie.Need-case-alone-requires Inv-loop μ-loop
 case-alone-requires c κs = search needs
+
+full-state-requires : tie.Need-full-state-requires Inv-loop μ-loop
+full-state-requires c κs = search needs
 
 case-alone-requires-2 : tie.Need-case-alone-requires-2 Inv-loop μ-loop
 case-alone-requires-2 c κs = search needs
@@ -45,8 +45,8 @@ written-spec =
     (tie.spec
     Inv-loop
     μ-loop
-    throw-requires
     case-alone-requires
+    full-state-requires
     case-alone-requires-2
     loop-holds
     begin-case-requires

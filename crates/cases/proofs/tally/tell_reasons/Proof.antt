@@ -4,16 +4,28 @@ use Rattle.cases.proofs.tally.tell_reasons.Statement.{statement}
 use Rattle.cases.proofs.tally.tell_reasons.Tie as tie
 
 abbrev Inv-loop : tie.InvT-loop
-Inv-loop desk reason₀ reason = Unit
+Inv-loop desk reason₀ t3 t4 reason = Unit
 
 abbrev μ-loop : tie.MeasureT-loop
-μ-loop desk reason₀ reason = 13 - reason
+μ-loop desk reason₀ t3 t4 reason = 12 - reason
 
 loop-holds : tie.Need-loop-holds Inv-loop μ-loop
 loop-holds c = search needs
 
-tell-reason-requires : tie.Need-tell-reason-requires Inv-loop μ-loop
-tell-reason-requires c κs = search needs
+slice-aggregate-say : tie.Need-slice-aggregate-say Inv-loop μ-loop
+slice-aggregate-say c = search needs
+
+say-requires : tie.Need-say-requires Inv-loop μ-loop
+say-requires c κs = search needs
+
+slice-aggregate-say-count : tie.Need-slice-aggregate-say-count Inv-loop μ-loop
+slice-aggregate-say-count c = search needs
+
+say-count-requires : tie.Need-say-count-requires Inv-loop μ-loop
+say-count-requires c κs = search needs
+
+end-line-requires : tie.Need-end-line-requires Inv-loop μ-loop
+end-line-requires c κs = search needs
 
 add-reason : tie.Need-add-reason Inv-loop μ-loop
 add-reason c = search needs
@@ -34,7 +46,11 @@ tell-reasons-spec =
     Inv-loop
     μ-loop
     loop-holds
-    tell-reason-requires
+    slice-aggregate-say
+    say-requires
+    slice-aggregate-say-count
+    say-count-requires
+    end-line-requires
     add-reason
     loop-less
     loop-again

@@ -1,0 +1,73 @@
+use Prim.Native.Nat.{_-_}
+use borrow.Author.Needs.{needs}
+use Rattle.beside.proofs.second.grants_say.Statement.{statement}
+use Rattle.beside.proofs.second.grants_say.Tie as tie
+
+abbrev Inv-loop : tie.InvT-loop
+Inv-loop desk whose address n said₀ i₀ said i = Unit
+
+abbrev μ-loop : tie.MeasureT-loop
+μ-loop desk whose address n said₀ i₀ said i = n - i
+
+len-requires : tie.Need-len-requires Inv-loop μ-loop
+len-requires c κs = search needs
+
+loop-holds : tie.Need-loop-holds Inv-loop μ-loop
+loop-holds c = search needs
+
+at-requires : tie.Need-at-requires Inv-loop μ-loop
+at-requires c κs = search needs
+
+plus-requires : tie.Need-plus-requires Inv-loop μ-loop
+plus-requires c κs = search needs
+
+at-requires-2 : tie.Need-at-requires-2 Inv-loop μ-loop
+at-requires-2 c κs = search needs
+
+plus-requires-2 : tie.Need-plus-requires-2 Inv-loop μ-loop
+plus-requires-2 c κs = search needs
+
+at-requires-3 : tie.Need-at-requires-3 Inv-loop μ-loop
+at-requires-3 c κs = search needs
+
+plus-requires-3 : tie.Need-plus-requires-3 Inv-loop μ-loop
+plus-requires-3 c κs = search needs
+
+at-requires-4 : tie.Need-at-requires-4 Inv-loop μ-loop
+at-requires-4 c κs = search needs
+
+grant-says-requires : tie.Need-grant-says-requires Inv-loop μ-loop
+grant-says-requires c κs = search needs
+
+add-i : tie.Need-add-i Inv-loop μ-loop
+add-i c = search needs
+
+loop-less : tie.Need-loop-less Inv-loop μ-loop
+loop-less c = search needs
+
+loop-again : tie.Need-loop-again Inv-loop μ-loop
+loop-again c = search needs
+
+returns : tie.Need-returns Inv-loop μ-loop
+returns c = search needs
+
+pub grants-say-spec : {M : Type 1} → statement M
+grants-say-spec =
+    tie.close
+    (tie.spec
+    Inv-loop
+    μ-loop
+    len-requires
+    loop-holds
+    at-requires
+    plus-requires
+    at-requires-2
+    plus-requires-2
+    at-requires-3
+    plus-requires-3
+    at-requires-4
+    grant-says-requires
+    add-i
+    loop-less
+    loop-again
+    returns)

@@ -1,0 +1,49 @@
+use Prim.Native.Nat.{_-_}
+use borrow.Author.Needs.{needs}
+use Rattle.beside.proofs.table.find.Statement.{statement}
+use Rattle.beside.proofs.table.find.Tie as tie
+
+abbrev Inv-loop : tie.InvT-loop
+Inv-loop wanted rows cell₀ cell = Unit
+
+abbrev μ-loop : tie.MeasureT-loop
+μ-loop wanted rows cell₀ cell = 101 - cell
+
+loop-holds : tie.Need-loop-holds Inv-loop μ-loop
+loop-holds c = search needs
+
+mul-if1 : tie.Need-mul-if1 Inv-loop μ-loop
+mul-if1 c = search needs
+
+array-read-if1 : tie.Need-array-read-if1 Inv-loop μ-loop
+array-read-if1 c = search needs
+
+returns : tie.Need-returns Inv-loop μ-loop
+returns c = search needs
+
+add-cell : tie.Need-add-cell Inv-loop μ-loop
+add-cell c = search needs
+
+loop-less : tie.Need-loop-less Inv-loop μ-loop
+loop-less c = search needs
+
+loop-again : tie.Need-loop-again Inv-loop μ-loop
+loop-again c = search needs
+
+returns-2 : tie.Need-returns-2 Inv-loop μ-loop
+returns-2 c = search needs
+
+pub find-spec : {M : Type 1} → statement M
+find-spec =
+    tie.close
+    (tie.spec
+    Inv-loop
+    μ-loop
+    loop-holds
+    mul-if1
+    array-read-if1
+    returns
+    add-cell
+    loop-less
+    loop-again
+    returns-2)

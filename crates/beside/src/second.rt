@@ -1,0 +1,397 @@
+// The second reader and writer, written from document 01 a second time: what each word is, is noted first, by the
+// headers' counts alone, and each word is judged by itself after that. Nothing is shared with the first ones: no table,
+// no definition, no function.
+use super::calls::answer;
+use super::desk::BATCH;
+use super::desk::CELLS;
+use super::desk::Desk;
+use super::desk::GRANTS;
+use super::desk::RIGHT;
+use super::desk::ROUGH;
+use super::desk::STATE;
+use super::desk::at;
+use super::desk::difference;
+use super::desk::fill;
+use super::desk::len;
+use super::desk::minus;
+use super::desk::narrow;
+use super::desk::plus;
+use super::desk::push;
+use super::desk::put;
+use super::desk::sum;
+use super::table::CODES;
+use super::table::ELEVENS;
+use super::table::FORMAT;
+use super::table::LOCATION;
+use super::table::MODES;
+use super::table::NONE;
+use super::table::NOT_THREE;
+use super::table::SCALER;
+use super::table::SIZE;
+use super::table::VIDEO;
+use super::table::find;
+use super::table::mask;
+use super::table::name;
+use super::table::role;
+use super::table::rule;
+
+const DRAWING: u32 = 0x043c;
+
+// What a word is, where it is not for a cell.
+const HEADER: usize = 253;
+
+const SETTING: usize = 254;
+
+fn state_is_well_formed(desk: &Desk, list: usize) -> bool {
+    for cell in 0..101usize {
+        let mark = at(desk, list, cell + 101);
+        if mark > 1 {
+            return false;
+        }
+        if mark == 0 && at(desk, list, cell) != 0 {
+            return false;
+        }
+    }
+    len(desk, list) == 202
+}
+
+// The sum as a whole number.
+fn whole_sum(a: u32, b: u32) -> u64 {
+    std::num::wrapping_add_u64(a as u64, b as u64)
+}
+
+// What a grant says of an address of a role: 2 where it breaks the rules, 1 where it covers the address.
+fn grant_says(whose: u32, address: u32, owner: u32, start: u32, length: u32, reach: u32) -> u32 {
+    let end = whole_sum(start, length);
+    if owner < 1 || owner > 3 || reach < 1 || end > 0x1_0000_0000 {
+        return 2;
+    }
+    if owner == whose && start <= address && whole_sum(address, reach) <= end {
+        1
+    } else {
+        0
+    }
+}
+
+// What all grants say of it. They stand four words apart; words past the last whole grant, and a 65th, break the rules.
+fn grants_say(desk: &Desk, whose: u32, address: u32) -> u32 {
+    let n = len(desk, GRANTS);
+    let mut said = if n > 256 || n % 4 != 0 { 2u32 } else { 0u32 };
+    for i in 0..n {
+        if i % 4 == 0 {
+            let owner = at(desk, GRANTS, i);
+            let start = at(desk, GRANTS, plus(i, 1));
+            let length = at(desk, GRANTS, plus(i, 2));
+            let reach = at(desk, GRANTS, plus(i, 3));
+            said = said | grant_says(whose, address, owner, start, length, reach);
+        }
+    }
+    said
+}
+
+// The format bytes with a size: the upper five bits, then which of the lower three.
+fn format_is_permitted(byte: u32) -> bool {
+    let low = byte & 7;
+    match byte >> 3 {
+        0b00010 => low == 5 || low == 6,
+        0b00110 => low == 0,
+        0b10001 | 0b10101 | 0b11001 | 0b11100 => low <= 3 || low == 5,
+        0b10011 | 0b11011 | 0b11101 => low <= 2,
+        0b10111 => low <= 3,
+        0b11110 => low == 0 || low == 4 || low == 5,
+        _ => false,
+    }
+}
+
+// Bits 15:13, 12:10, 9:7 and 6:4 are at most 3 where none has its top bit; 2 in the first and the
+// third alone is refused.
+fn modes_are_permitted(v: u32) -> bool {
+    if v >> 16 & 31 > 16 || v & 0x9240 != 0 {
+        return false;
+    }
+    match v & 15 {
+        0 | 1 | 2 | 4 => (v >> 13 & 3 == 2) == (v >> 7 & 3 == 2),
+        _ => false,
+    }
+}
+
+fn code_is_permitted(code: u32) -> bool {
+    code <= 3 || code == 7
+}
+
+fn codes_are_permitted(v: u32) -> bool {
+    if v >> 19 & 7 > 1 || v >> 16 & 7 > 1 {
+        return false;
+    }
+    code_is_permitted(v >> 6 & 7) && code_is_permitted(v >> 3 & 7) && code_is_permitted(v & 7)
+}
+
+fn value_is_permitted(cell: usize, v: u32) -> bool {
+    match rule(cell) {
+        SIZE => v >> 12 & 0x7ff <= 1024 && v & 0x7ff <= 1024,
+        LOCATION => v >> 20 & 3 == 0,
+        FORMAT => format_is_permitted(v >> 16 & 255),
+        ELEVENS => v >> 6 & 63 <= 11 && v & 63 <= 11,
+        MODES => modes_are_permitted(v),
+        CODES => codes_are_permitted(v),
+        NOT_THREE => v & 3 != 3,
+        SCALER => v & 3 == 0,
+        _ => true,
+    }
+}
+
+// The address that a value of that register holds.
+fn address_of(whose: u32, v: u32) -> u32 {
+    if whose == 1 { v << 8 } else { v & 0x1ffffff0 }
+}
+
+// Reason 7, 8 or 9, or 0 where the register takes the value.
+pub(super) fn judge_value(desk: &Desk, cell: usize, v: u32) -> u32 {
+    if v & mask(cell) != 0 {
+        return 7;
+    }
+    if !value_is_permitted(cell, v) {
+        return 8;
+    }
+    let whose = role(cell);
+    if whose == 0 || grants_say(desk, whose, address_of(whose, v)) == 1 {
+        0
+    } else {
+        9
+    }
+}
+
+fn setting_is_allowed(setting: u32) -> bool {
+    match setting & 0xffffff {
+        0x010000 => setting >> 24 == 0,
+        0x020000 => setting >> 24 & 0xd0 == 0,
+        _ => false,
+    }
+}
+
+// What a word is bound for: the packet's offset and setting, how far the word stands behind the
+// header, and the word itself.
+fn bound_for(offset: u32, setting: u32, behind: u32, word: u32) -> u32 {
+    if offset == DRAWING {
+        return setting & 0xff0000 | setting >> 24 << 8 | word >> 24;
+    }
+    VIDEO | sum(offset, difference(behind, 1) << 2)
+}
+
+// Every offset of the run is a video register. One that passes FFFFh is none.
+fn run_is_listed(offset: u32, count: u32) -> bool {
+    for i in 0..count {
+        let next = sum(offset, i << 2);
+        if next > 0xffff || find(VIDEO | next) == NONE {
+            return false;
+        }
+    }
+    count > 0
+}
+
+fn judge_header(header: u32) -> u32 {
+    let offset = header & 0xffff;
+    let count = header >> 16;
+    if offset == DRAWING {
+        return if count < 2 || count > 113 { 4 } else { 0 };
+    }
+    if find(VIDEO | offset) == NONE {
+        return 3;
+    }
+    if run_is_listed(offset, count) { 0 } else { 4 }
+}
+
+pub(super) fn value_in(cell: usize, word: u32) -> u32 {
+    if cell < 84 { word & 0xffffff } else { word }
+}
+
+// What a word is, by its packet's header and setting and by how far it stands behind the header: the header, the
+// setting, or its cell.
+fn what_is(header: u32, setting: u32, behind: u32, word: u32) -> usize {
+    let offset = header & 0xffff;
+    match behind {
+        0 => HEADER,
+        1 => {
+            if offset == DRAWING {
+                SETTING
+            } else {
+                find(VIDEO | offset)
+            }
+        }
+        _ => find(bound_for(offset, setting, behind, word)),
+    }
+}
+
+// Notes what each word of the batch is, by the headers' counts alone. Answers where the next header would stand.
+fn mark_words(desk: &mut Desk) -> usize {
+    let n = len(desk, BATCH);
+    let mut start = 0usize;
+    let mut next = 0usize;
+    for i in 0..n {
+        let word = at(desk, BATCH, i);
+        if i == next {
+            start = i;
+            next = plus(plus(i, 1), (word >> 16) as usize);
+        }
+        let header = at(desk, BATCH, start);
+        let setting = at(desk, BATCH, plus(start, 1));
+        put(
+            desk,
+            CELLS,
+            i,
+            narrow(what_is(header, setting, narrow(minus(i, start)), word)),
+        );
+    }
+    next
+}
+
+// The reason of a word that is so marked, or 0.
+fn judge_word(desk: &Desk, what: usize, word: u32) -> u32 {
+    match what {
+        HEADER => judge_header(word),
+        SETTING => { if setting_is_allowed(word) { 0 } else { 5 } }
+        NONE => 6,
+        _ => judge_value(desk, what, value_in(what, word)),
+    }
+}
+
+// The words from the front: the first that is refused, or that they end inside a packet, or that all is well.
+fn judge_words(desk: &Desk, next: usize) -> u64 {
+    let n = len(desk, BATCH);
+    for i in 0..n {
+        let found = judge_word(desk, at(desk, CELLS, i) as usize, at(desk, BATCH, i));
+        if found != 0 {
+            return answer(found, i);
+        }
+    }
+    answer(if next == n { 0 } else { 10 }, n)
+}
+
+fn store(desk: &mut Desk) {
+    let n = len(desk, BATCH);
+    for i in 0..n {
+        let cell = at(desk, CELLS, i) as usize;
+        if cell < 101 {
+            let word = at(desk, BATCH, i);
+            put(desk, RIGHT, cell, value_in(cell, word));
+            put(desk, RIGHT, cell + 101, 1);
+        }
+    }
+}
+
+// Reason 1 or 2, or 0.
+fn judge_lists(desk: &Desk, state: usize) -> u32 {
+    if !state_is_well_formed(desk, state) {
+        return 1;
+    }
+    grants_say(desk, 0, 0) & 2
+}
+
+// Reads the batch into the state at RIGHT.
+pub(super) fn read(desk: &mut Desk) -> u64 {
+    let bad = judge_lists(desk, RIGHT);
+    if bad != 0 {
+        return answer(bad, 0);
+    }
+    let next = mark_words(desk);
+    let told = judge_words(desk, next);
+    if told % 256 == 0 {
+        store(desk);
+    }
+    told
+}
+
+fn is_refused(desk: &Desk, cell: usize) -> bool {
+    let v = at(desk, STATE, cell);
+    value_in(cell, v) != v || judge_value(desk, cell, v) != 0
+}
+
+// The lowest marked cell that cannot be written, or NONE.
+fn lowest_refused(desk: &Desk) -> usize {
+    for cell in 0..101usize {
+        if at(desk, STATE, cell + 101) == 1 && is_refused(desk, cell) {
+            return cell;
+        }
+    }
+    NONE
+}
+
+// The setting of a 3D cell's packet.
+pub(super) fn setting_of(cell: usize) -> u32 {
+    name(cell) << 16 & 0xff000000 | name(cell) & 0xff0000
+}
+
+// The header of a packet with so many values, that begins at the cell.
+pub(super) fn header_of(cell: usize, values: u32) -> u32 {
+    if cell < 84 {
+        sum(values, 1) << 16 | DRAWING
+    } else {
+        values << 16 | name(cell) & 0xffff
+    }
+}
+
+// The word for a value: before a 3D value stands its sub-address.
+pub(super) fn word_of(cell: usize, v: u32) -> u32 {
+    if cell < 84 { name(cell) << 24 | v } else { v }
+}
+
+// Opens a packet for the cell, with no value yet, unless the open one has its setting. Answers where its header stands.
+fn open_packet(desk: &mut Desk, cell: usize, open: usize) -> usize {
+    if cell < 84 && at(desk, ROUGH, plus(open, 1)) == setting_of(cell) {
+        return open;
+    }
+    let header = len(desk, ROUGH);
+    push(desk, ROUGH, header_of(cell, 0));
+    if cell < 84 {
+        push(desk, ROUGH, setting_of(cell));
+    }
+    header
+}
+
+// One more value for the open packet. Answers where its header stands.
+fn put_cell(desk: &mut Desk, cell: usize, open: usize) -> usize {
+    let header = open_packet(desk, cell, open);
+    let grown = sum(at(desk, ROUGH, header), 0x10000);
+    put(desk, ROUGH, header, grown);
+    let v = at(desk, STATE, cell);
+    push(desk, ROUGH, word_of(cell, v));
+    header
+}
+
+// The words that the state is written as, at ROUGH. No word of its room is a setting before.
+fn put_words(desk: &mut Desk) {
+    fill(desk, ROUGH, 0, 0);
+    let mut open = 0usize;
+    for cell in 0..101usize {
+        if at(desk, STATE, cell + 101) == 1 {
+            open = put_cell(desk, cell, open);
+        }
+    }
+}
+
+// Lays the words at ROUGH over RIGHT, if there is room for them.
+fn lay_out(desk: &mut Desk, room: usize) -> u64 {
+    let n = len(desk, ROUGH);
+    if n > room {
+        return answer(11, 0);
+    }
+    for i in 0..n {
+        let word = at(desk, ROUGH, i);
+        put(desk, RIGHT, i, word);
+    }
+    answer(0, n)
+}
+
+// Writes the state into so many bytes of RIGHT.
+pub(super) fn write(desk: &mut Desk, bytes: usize) -> u64 {
+    let bad = judge_lists(desk, STATE);
+    if bad != 0 {
+        return answer(bad, 0);
+    }
+    let refused = lowest_refused(desk);
+    if refused != NONE {
+        return answer(12, refused);
+    }
+    put_words(desk);
+    lay_out(desk, bytes >> 2)
+}

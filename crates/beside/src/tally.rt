@@ -1,0 +1,140 @@
+// What is counted and told: calls of the family at work, differences with a line for each of the first, calls by reason,
+// and made-up values by row and reason.
+use super::calls;
+use super::calls::READ;
+use super::calls::WRITE;
+use super::desk::BATCH;
+use super::desk::BEFORE;
+use super::desk::COUNTS;
+use super::desk::Desk;
+use super::desk::LEFT;
+use super::desk::RIGHT;
+use super::desk::STATE;
+use super::desk::at;
+use super::desk::copy;
+use super::desk::fill;
+use super::desk::len;
+use super::desk::minus;
+use super::desk::plus;
+use super::desk::put;
+use super::desk::same;
+use super::desk::sum;
+use super::second;
+use libc::STDOUT_FILENO;
+
+// Where COUNTS has what, beside two tables with four numbers in a line: calls by reason, from line 0 on, and made-up
+// values by row, from line 16 on.
+const CALLS: usize = 200;
+
+const DIFFERENCES: usize = 201;
+
+fn add_one(desk: &mut Desk, i: usize) {
+    let counted = at(desk, COUNTS, i);
+    put(desk, COUNTS, i, sum(counted, 1));
+}
+
+fn say(key: &[u8], number: u64) {
+    io::write_all(STDOUT_FILENO, key);
+    io::print_decimal(STDOUT_FILENO, number);
+}
+
+fn say_count(desk: &Desk, key: &[u8], i: usize) {
+    say(key, at(desk, COUNTS, i) as u64);
+}
+
+fn end_line() {
+    io::write_all(STDOUT_FILENO, b"\n");
+}
+
+// Counts a difference; the first five are told, with the answers as numbers.
+fn note_difference(desk: &mut Desk, first: u64, other: u64) {
+    add_one(desk, DIFFERENCES);
+    if at(desk, COUNTS, DIFFERENCES) < 6 {
+        say_count(desk, b"difference, in the family below: call=", CALLS);
+        say(b" first=", first);
+        say(b" second=", other);
+        end_line();
+    }
+}
+
+// The two agree, in every byte too, and a refusal has changed none.
+fn agree(desk: &Desk, first: u64, other: u64) -> bool {
+    let kept = first % 256 == 0 || same(desk, LEFT, BEFORE);
+    kept && first == other && same(desk, LEFT, RIGHT)
+}
+
+// The first one beside the second, each lent so many bytes of what stands at BEFORE.
+fn check(desk: &mut Desk, kind: usize, bytes: usize) -> u64 {
+    copy(desk, BEFORE, RIGHT);
+    let first = calls::first(desk, kind, bytes);
+    let other = if kind == READ {
+        second::read(desk)
+    } else {
+        second::write(desk, bytes)
+    };
+    add_one(desk, CALLS);
+    add_one(desk, plus((first % 16) as usize * 4, kind));
+    if !agree(desk, first, other) {
+        note_difference(desk, first, other);
+    }
+    first
+}
+
+pub(super) fn check_read(desk: &mut Desk) -> u64 {
+    copy(desk, STATE, BEFORE);
+    let more = len(desk, BATCH) % 4;
+    check(desk, READ, plus(len(desk, STATE) << 2, more))
+}
+
+// The state written, into a buffer of so many bytes.
+pub(super) fn check_write(desk: &mut Desk, bytes: usize) -> u64 {
+    fill(desk, BEFORE, 0x5a, 0);
+    check(desk, WRITE, bytes)
+}
+
+pub(super) fn end_family(desk: &mut Desk, name: &[u8]) {
+    io::write_all(STDOUT_FILENO, name);
+    say_count(desk, b" calls=", CALLS);
+    say_count(desk, b" differences so far=", DIFFERENCES);
+    end_line();
+    put(desk, COUNTS, CALLS, 0);
+}
+
+// The line of a value: four for 01.00, one for all stages, three for all samples, and one for each video register.
+fn line_of(cell: usize) -> usize {
+    match cell {
+        0..=3 => cell + 16,
+        4..=35 => 20,
+        36..=83 => cell % 3 + 21,
+        _ => minus(cell, 60),
+    }
+}
+
+// Counts a made-up value: as taken, or by reason 7, 8 or 9.
+pub(super) fn note_value(desk: &mut Desk, cell: usize, reason: u32) {
+    let behind = (reason % 16) as usize % 6;
+    add_one(desk, plus(line_of(cell) << 2, behind));
+}
+
+fn tell_lines(desk: &Desk, name: &[u8], start: usize, end: usize) {
+    io::write_all(STDOUT_FILENO, name);
+    for line in start..end {
+        say(b"", minus(line, start) as u64);
+        say_count(desk, b": ", line << 2);
+        say_count(desk, b" ", plus(line << 2, 1));
+        say_count(desk, b" ", plus(line << 2, 2));
+        say_count(desk, b" ", plus(line << 2, 3));
+        end_line();
+    }
+}
+
+pub(super) fn tell(desk: &Desk) {
+    tell_lines(desk, b"reason: reads writes\n", 0, 13);
+    tell_lines(desk, b"row: values taken, refused by 7, 8, 9\n", 16, 41);
+    if at(desk, COUNTS, DIFFERENCES) == 0 {
+        io::write_all(STDOUT_FILENO, b"all as expected\n");
+    } else {
+        say_count(desk, b"NOT as expected: differences=", DIFFERENCES);
+        end_line();
+    }
+}
