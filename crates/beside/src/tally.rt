@@ -116,21 +116,30 @@ pub(super) fn note_value(desk: &mut Desk, cell: usize, reason: u32) {
     add_one(desk, plus(line_of(cell) << 2, behind));
 }
 
-fn tell_lines(desk: &Desk, name: &[u8], start: usize, end: usize) {
+// A line for each four numbers of the table from start to end.
+fn tell_table(desk: &Desk, name: &[u8], start: usize, end: usize) {
     io::write_all(STDOUT_FILENO, name);
-    for line in start..end {
-        say(b"", minus(line, start) as u64);
-        say_count(desk, b": ", line << 2);
-        say_count(desk, b" ", plus(line << 2, 1));
-        say_count(desk, b" ", plus(line << 2, 2));
-        say_count(desk, b" ", plus(line << 2, 3));
-        end_line();
+    for i in start..end {
+        say_count(desk, b" ", i);
+        if i % 4 == 3 {
+            end_line();
+        }
     }
 }
 
 pub(super) fn tell(desk: &Desk) {
-    tell_lines(desk, b"reason: reads writes\n", 0, 13);
-    tell_lines(desk, b"row: values taken, refused by 7, 8, 9\n", 16, 41);
+    tell_table(
+        desk,
+        b"reasons 0 to 12, a line each: reads, writes\n",
+        0,
+        52,
+    );
+    tell_table(
+        desk,
+        b"rows of the table, a line each: made-up values taken, refused by 7, 8, 9\n",
+        64,
+        164,
+    );
     if at(desk, COUNTS, DIFFERENCES) == 0 {
         io::write_all(STDOUT_FILENO, b"all as expected\n");
     } else {
