@@ -5,27 +5,39 @@ use mathlib.Core.List.{List}
 use Prim.Native.Nat.{ℕ, zero, suc, _+_, _*_, _-_, _/_, _≤_, _<_, _^_}
 use native.Mathlib.Omega.{arith}
 use native.Mathlib.Numerals.{add-one}
+use borrow.Author.Tests.{le-leb, lt-leb}
 use lib.ListN.{length, getD}
 use lib.Seq.{slice, slice-cons, slice-empty}
 use Rattle.meaning.specs.declared.Cell.{Cell}
 use Rattle.meaning.specs.declared.SubAddress.{SubAddress}
 use Rattle.meaning.specs.declared.VideoOffset.{VideoOffset}
 use Rattle.meaning.specs.declared.Found.{Found}
-use Rattle.meaning.specs.declared.Found.the-variants.{At, Missing}
+use Rattle.meaning.specs.declared.Found.the-variants.{At}
 use Rattle.meaning.specs.declared.Kind.{Kind}
 use Rattle.meaning.specs.declared.Kind.the-variants.{Parameter, Video}
 use Rattle.meaning.specs.Words.{paraType, paraSubType, subAddress, data24, wordsOf}
 use Rattle.meaning.specs.Registers.{cells, cell, registerAt, find3D, findVideo}
+use Rattle.meaning.specs.Batch.{named}
 use Rattle.meaning.specs.Grants.{Terms}
 use Rattle.meaning.specs.State.{apply, applyAll, writeTo}
 use Rattle.meaning.specs.Positions.{after, goes, carries}
-use Rattle.meaning.specs.Answers.{noRegister, success}
-use Rattle.meaning.specs.Reader.{valueReason, foundReason, wordReason}
+use Rattle.meaning.specs.Answers.{success}
+use Rattle.meaning.specs.Reader.{valueReason, wordReason}
 use Rattle.meaning.proofs.Bytes.{length-words}
 use Rattle.meaning.proofs.Table.{Of}
 use Rattle.meaning.proofs.Stored.{Wide, found-3D, data-small}
 use Rattle.registers.specs.Names.{offsetOf, rowFrom}
 use Rattle.registers.proofs.Names.{named-video, row-next}
+use Rattle.grants.specs.declared.Part.{Part}
+use Rattle.grants.specs.Kept.{Granting}
+use Rattle.grants.proofs.Keeping.{part-some}
+use Rattle.rows.specs.Scalers.{Scaler, first, second}
+use Rattle.headers.specs.declared.Group.{Group}
+use Rattle.headers.specs.Told.{cellIn, IsGroup, Leads}
+use Rattle.headers.proofs.Groups.{some-setting}
+use Rattle.judging.specs.declared.Judged.{Judged}
+use Rattle.judging.specs.Judged.{judgedIn}
+use Rattle.judging.proofs.Judging.{reason-judged, cell-judged}
 use Rattle.bodies.specs.Passes.{Passed, passed, answerOf, orElse, stored, bodyFrom}
 
 -- ---- a reason that is 0, and one that is not
@@ -39,25 +51,13 @@ else-stop (suc r) i st more n = refl
 
 -- ---- one write
 
-pub inside-at : {f : Found} {c : Cell} → f ≡ At c → Of (λ d. d .0 < cells) f → c .0 < cells
-inside-at e q = rw e at q
-
 -- the cells that a lookup finds are cells of the state
-inside : (f : Found) → Of (Wide 24) f → Of (λ c. c .0 < cells) f
-inside (At c) w = w .0
-inside Missing w = tt
+inside : {f : Found} {c : Cell} → f ≡ At c → Of (Wide 24) f → c .0 < cells
+inside e w = (rw e at w) .0
 
-pub inside-3D : (t u : ℕ) (a : SubAddress) {f : Found} → f ≡ find3D t u a → Of (λ c. c .0 < cells) f
-inside-3D t u a e = rw e (inside (find3D t u a) (found-3D t u a))
-
-module _ (st : List ℕ) (v : ℕ) {f : Found} where
-  pub stored-at : {c : Cell} {left : List ℕ} → f ≡ At c → left ≡ apply st (record { cell = c; value = v }) → left ≡ applyAll st (writeTo f v)
-  unfolding applyAll
-  stored-at e h = rw e h
-
-  pub stored-none : f ≡ Missing → st ≡ applyAll st (writeTo f v)
-  unfolding applyAll
-  stored-none e = rw e
+stored-at : (st : List ℕ) (v : ℕ) {f : Found} {c : Cell} {left : List ℕ} → f ≡ At c → left ≡ apply st (record { cell = c; value = v }) → left ≡ applyAll st (writeTo f v)
+unfolding applyAll
+stored-at st v e h = rw e h
 
 -- ---- a loop over the words up to a place: to read on from here is to read the whole
 
@@ -91,21 +91,34 @@ as-answer e = ap answerOf e
 pub as-state : {r p : ℕ} {st : List ℕ} {target : Passed} → passed r p st ≡ target → st ≡ target .state
 as-state e = ap (λ (x : Passed). x .state) e
 
--- ---- parameters, from what the code reads of a word and its setting
+-- ---- parameters of a group, from what the code reads of a word
 
 -- the setting stays
 pub same-setting : (s w : ℕ) → after (Parameter s) w ≡ Parameter s
 unfolding after
 same-setting s w = refl
 
-module _ (g : Terms) (s w : ℕ) {t u d : ℕ} {a : SubAddress} (et : paraType s ≡ t) (eu : paraSubType s ≡ u) (ea : a ≡ subAddress w) (ed : d ≡ data24 w) where
-  pub parameter-asked : {r : ℕ} → r ≡ foundReason g noRegister (find3D t u a) d → r ≡ wordReason g (Parameter s) w
-  unfolding wordReason
-  parameter-asked e = rw (et, eu, sym ea, sym ed) e
+module _ {G : Group} (a : SubAddress) (d : ℕ) {j : Judged} where
+  module _ (g : Terms) (s w : ℕ) (leads : Leads s G) (ea : a ≡ subAddress w) (ed : d ≡ data24 w) (told : j ≡ judgedIn g (cellIn G a) d) where
+    is-named : named s w ≡ cellIn G a
+    is-named = ap (find3D (paraType s) (paraSubType s)) (sym ea) ∙ leads .found a
 
-  pub parameter-stored : (st : List ℕ) {f : Found} {left : List ℕ} → left ≡ applyAll st (writeTo f d) → f ≡ find3D t u a → left ≡ stored (Parameter s) w st
-  unfolding goes carries
-  parameter-stored st e ef = e ∙ rw (ef, ea, ed, et, eu)
+    pub parameter-asked : j .reason ≡ wordReason g (Parameter s) w
+    unfolding wordReason
+    parameter-asked = rw (is-named, sym ed) (reason-judged g d (cellIn G a) told)
+
+    pub parameter-stored : j .reason ≡ 0 → (st : List ℕ) {left : List ℕ} → left ≡ apply st (record { cell = j .cell; value = d }) → left ≡ stored (Parameter s) w st
+    unfolding goes carries
+    parameter-stored z st h = rw (is-named, sym ed) (stored-at st d (cell-judged g d (cellIn G a) told z) h)
+
+  -- the cell of a value that is stored is one of the state, whatever is granted
+  pub parameter-inside : IsGroup G → (starts lasts : List ℕ) (part : Part) → ((g : Terms) → Granting g 1 starts lasts part → j ≡ judgedIn g (cellIn G a) d)
+      → j .reason ≡ 0 → j .cell .0 < cells
+  parameter-inside i starts lasts part told z =
+      let s = some-setting G i in
+      let g = part-some 1 starts lasts part in
+      let at = s .1 .found a ∙ cell-judged (g .0) d (cellIn G a) (told (g .0) (g .1)) z in
+      inside at (found-3D (paraType (s .0)) (paraSubType (s .0)) a)
 
 -- a parameter's data bits are 24
 pub data-narrow : (w : ℕ) {d : ℕ} → d ≡ data24 w → d < 2 ^ 24
@@ -120,9 +133,9 @@ nth o i = record { 0 = o .0 + 4 * i }
 pub first-offset : (o : VideoOffset) (at : ℕ) → Video (nth o (at - at)) ≡ Video o
 first-offset o at = let e : o .0 + 4 * (at - at) ≡ o .0 = omega arith in ap (λ (x : ℕ). Video (record { 0 = x })) e
 
-pub next-offset : (o : VideoOffset) (first at w : ℕ) → first ≤ at → after (Video (nth o (at - first))) w ≡ Video (nth o (at + 1 - first))
+pub next-offset : (o : VideoOffset) (from at w : ℕ) → from ≤ at → after (Video (nth o (at - from))) w ≡ Video (nth o (at + 1 - from))
 unfolding after
-next-offset o first at w l = let e : o .0 + 4 * (at - first) + 4 ≡ o .0 + 4 * (at + 1 - first) = omega arith in ap (λ (x : ℕ). Video (record { 0 = x })) e
+next-offset o from at w l = let e : o .0 + 4 * (at - from) + 4 ≡ o .0 + 4 * (at + 1 - from) = omega arith in ap (λ (x : ℕ). Video (record { 0 = x })) e
 
 -- word number j of a run from cell c on, which is for cell d
 module _ (g : Terms) (c j : ℕ) (low : 84 ≤ c) (high : c < cells) (row : j < rowFrom (cell c)) {d : ℕ} (is : d ≡ c + j) (w : ℕ) where
@@ -136,6 +149,23 @@ module _ (g : Terms) (c j : ℕ) (low : 84 ≤ c) (high : c < cells) (row : j < 
   pub word-stored : (st : List ℕ) {left : List ℕ} → left ≡ apply st (record { cell = cell d; value = w }) → left ≡ stored (Video (nth (offsetOf (cell c)) j)) w st
   unfolding goes carries
   word-stored st e = stored-at st w found e
+
+-- ---- rows of video registers
+
+-- so many registers stand in a row from one of the first three on,
+pub row-overlay : (i : ℕ) → i < 3 → rowFrom (cell (84 + i)) ≡ 3 - i
+unfolding rowFrom
+row-overlay i h = let e : 87 - (84 + i) ≡ 3 - i = omega arith in rw (le-leb (84 + i) 86 (omega arith), e)
+
+-- and from one of a scaler's seven
+pub row-scaler : (c role i : ℕ) → Scaler c role → i < 7 → rowFrom (cell (c + i)) ≡ 7 - i
+unfolding rowFrom
+row-scaler _ _ i first h = let e : 94 - (87 + i) ≡ 7 - i = omega arith in rw (lt-leb (87 + i) 86 (omega arith), le-leb (87 + i) 93 (omega arith), e)
+row-scaler _ _ i second h = let e : 101 - (94 + i) ≡ 7 - i = omega arith in rw (lt-leb (94 + i) 86 (omega arith), lt-leb (94 + i) 93 (omega arith), e)
+
+pub scaler-cells : (c role : ℕ) → Scaler c role → (84 ≤ c) × (c + 7 ≤ cells)
+scaler-cells _ _ first = (omega arith, omega arith)
+scaler-cells _ _ second = (omega arith, omega arith)
 
 -- ---- places of a batch in bytes
 

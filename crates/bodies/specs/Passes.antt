@@ -1,7 +1,8 @@
 -- What reading words of one packet's body comes to: how far they are fine, and the state with what those words write.
 -- Assumes nothing.
 use mathlib.Core.List.{List, [], _∷_}
-use Prim.Native.Nat.{ℕ, zero, suc}
+use Prim.Native.Nat.{ℕ, zero, suc, _/_, _≤_}
+use lib.ListN.{length}
 use Rattle.meaning.specs.declared.Kind.{Kind}
 use Rattle.meaning.specs.declared.Answer.{Answer}
 use Rattle.meaning.specs.Grants.{Terms}
@@ -9,6 +10,10 @@ use Rattle.meaning.specs.State.{applyAll, writeTo}
 use Rattle.meaning.specs.Positions.{after, goes, carries}
 use Rattle.meaning.specs.Answers.{success, answer}
 use Rattle.meaning.specs.Reader.{wordReason}
+
+-- places of a batch in bytes: from a first one to before an end
+abbrev pub Places : ℕ → ℕ → List ℕ → Type 0
+Places first end batch = (first ≤ end) × (end ≤ length batch / 4)
 
 -- a reason and a place, and the state with all that was written before that place
 pub record Passed : Type 0 where

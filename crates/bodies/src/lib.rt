@@ -1,30 +1,29 @@
 // The words of one packet's body, from place `first` to before `end`: each is judged and, where nothing speaks against it, stored. The
-// callers lend a state of their own, so that a refusal leaves nothing half done where it matters. There is a loop for each group, inside
-// which type and sub-type stand still, and one for each kind of video row.
+// callers lend a state of their own, so that a refusal leaves nothing half done where it matters. There is a loop for parameters, and one
+// for each kind of video row.
 ghost use mathlib.Core.Path.{_≡_};
-ghost use Prim.Native.Nat.{ℕ, _+_, _-_, _/_, _<_, _≤_, _^_};
-ghost use lib.ListN.{length};
+ghost use Prim.Native.Nat.{ℕ, _+_, _-_, _<_, _≤_};
 ghost use lib.Seq.{slice};
 ghost use Rattle.meaning.specs.declared.Kind.the-variants as kinds;
-ghost use Rattle.meaning.specs.Words.{paraType, paraSubType, wordsOf};
-ghost use Rattle.meaning.specs.Registers.{cells, cell, registerAt, find3D};
+ghost use Rattle.meaning.specs.Words.{wordsOf};
+ghost use Rattle.meaning.specs.Registers.{cells, firstVideo, cell};
 ghost use Rattle.meaning.specs.Grants.{Terms, mostGrants};
-ghost use Rattle.meaning.specs.State.{writeTo};
 ghost use Rattle.meaning.specs.State as state_of;
-ghost use Rattle.meaning.specs.Answers.{noRegister};
-ghost use Rattle.meaning.specs.Reader.{valueReason, foundReason};
-ghost use Rattle.meaning.proofs.Table.{Of};
+ghost use Rattle.meaning.specs.Answers.{success, answer};
 ghost use Rattle.registers.specs.Names.{offsetOf};
 ghost use Rattle.grants.specs.Kept.{Granting};
-ghost use Rattle.verdicts.specs.Scalers.{Scaler, IsScaler};
-ghost use Rattle.bodies.specs.Passes.{answerOf, bodyFrom};
+ghost use Rattle.rows.specs.Scalers.{Scaler, IsScaler};
+ghost use Rattle.headers.specs.Told.{IsGroup, Leads};
+ghost use Rattle.bodies.specs.Passes.{answerOf, bodyFrom, Places};
 use grants::Part;
 use grants::Spans;
+use headers::Group;
 use meaning::Answer;
+use meaning::CELLS;
 use meaning::Cell;
-use meaning::Found;
+use meaning::FIRST_VIDEO;
+use meaning::SUCCESS;
 use meaning::State;
-use meaning::SubAddress;
 
 // A write sets the cell's value and marks it.
 fn store(state: &mut State, cell: Cell, value: u32)
@@ -33,189 +32,56 @@ fn store(state: &mut State, cell: Cell, value: u32)
 {
     let c = cell.0;
     state[c] = value;
-    state[101 + c] = 1;
+    state[CELLS + c] = 1;
 }
 
-// A register that the table has gets the value.
-fn store_found(state: &mut State, found: Found, value: u32)
-    requires inside { ⌜ Of (λ c. c .0 < cells) found ⌝ }
-    ensures stored { λ _. ⌜ now (state .exit) ≡ state_of.applyAll (now (state .entry)) (writeTo found value) ⌝ }
+// Nothing speaks against the words before a place.
+fn through(place: usize) -> Answer
+    ensures answer { λ r. ⌜ r ≡ answer success place ⌝ }
 {
-    match found {
-        Found::At(cell) => store(state, cell, value),
-        Found::Missing => {}
+    Answer {
+        reason: SUCCESS,
+        place,
     }
 }
 
-// 6 to 9 under 01.00.
-fn target_reason(address: SubAddress, value: u32, starts: &Spans, lasts: &Spans, part: Part) -> u32
-    requires narrow { ⌜ value < 2 ^ 24 ⌝ }
-    requires kept { ⌜ part .to ≤ mostGrants ⌝ }
-    ensures reason { λ r. ⌜ ((g : Terms) → Granting g 1 (now (starts .entry)) (now (lasts .entry)) part → r ≡ foundReason g noRegister (find3D 0x01 0x00 address) value) ⌝ }
-{
-    let a = address.0;
-    match a {
-        0x3f => verdicts::alpha_constants_reason(value),
-        0x50 => verdicts::target_address_reason(value, starts, lasts, part),
-        0x51 => verdicts::location_reason(value),
-        0x52 => verdicts::format_reason(value),
-        _ => 6,
-    }
-}
-
-// The same under 02.0n,
-fn stage_reason(address: SubAddress, value: u32) -> u32
-    ensures reason { λ r. ⌜ ((g : Terms) (n : ℕ) → n < 16 → r ≡ foundReason g noRegister (find3D 0x02 n address) value) ⌝ }
-{
-    let a = address.0;
-    match a {
-        0x50..=0x51 => verdicts::stage_reason(value),
-        _ => 6,
-    }
-}
-
-// and under 02.2n.
-fn sample_reason(address: SubAddress, value: u32) -> u32
-    ensures reason { λ r. ⌜ ((g : Terms) (n : ℕ) → n < 16 → r ≡ foundReason g noRegister (find3D 0x02 (0x20 + n) address) value) ⌝ }
-{
-    let a = address.0;
-    match a {
-        0x30 => verdicts::levels_reason(value),
-        0x31 => verdicts::filters_reason(value),
-        0x32 => verdicts::mapping_reason(value),
-        _ => 6,
-    }
-}
-
-// 7 and 8 of 2208, 220C and 2210.
-fn overlay_reason(index: usize, value: u32) -> u32
-    requires three { ⌜ index < 3 ⌝ }
-    ensures reason { λ r. ⌜ ((g : Terms) → r ≡ valueReason g (registerAt (cell (84 + index))) value) ⌝ }
-{
-    match index {
-        0..=1 => verdicts::overlay_reason(value),
-        _ => verdicts::alpha_select_reason(value),
-    }
-}
-
-// 7 to 9 of a scaler's registers.
-fn scaler_reason(index: usize, value: u32, starts: &Spans, lasts: &Spans, part: Part) -> u32
-    requires seven { ⌜ index < 7 ⌝ }
-    requires kept { ⌜ part .to ≤ mostGrants ⌝ }
-    ensures reason { λ r. ⌜ ((g : Terms) (c role : ℕ) → Scaler c role → Granting g role (now (starts .entry)) (now (lasts .entry)) part → r ≡ valueReason g (registerAt (cell (c + index))) value) ⌝ }
-{
-    match index {
-        0 => verdicts::deinterlace_reason(value),
-        1 => verdicts::sub_picture_reason(value),
-        2 => verdicts::first_address_reason(value, starts, lasts, part),
-        3 => verdicts::address_reason(value, starts, lasts, part),
-        4 => verdicts::destination_stride_reason(value),
-        5 => verdicts::source_stride_reason(value),
-        _ => verdicts::address_reason(value, starts, lasts, part),
-    }
-}
-
-// Parameters under 01.00.
-pub fn take_target(
+// Parameters of a group.
+pub fn take_parameters(
     batch: &[u8],
     first: usize,
     end: usize,
-    setting: u32,
+    group: Group,
     starts: &Spans,
     lasts: &Spans,
     part: Part,
     state: &mut State,
 ) -> Answer
-    requires order { ⌜ first ≤ end ⌝ }
-    requires inside { ⌜ end ≤ length (now batch) / 4 ⌝ }
-    requires ty { ⌜ paraType setting ≡ 0x01 ⌝ }
-    requires sub { ⌜ paraSubType setting ≡ 0x00 ⌝ }
+    requires places { ⌜ Places first end (now batch) ⌝ }
+    requires group { ⌜ IsGroup group ⌝ }
     requires kept { ⌜ part .to ≤ mostGrants ⌝ }
-    ensures answer { λ r. ⌜ ((g : Terms) → Granting g 1 (now (starts .entry)) (now (lasts .entry)) part → r ≡ answerOf (bodyFrom g first (kinds.Parameter setting) (slice first end (wordsOf (now (batch .entry)))) (now (state .entry)))) ⌝ }
-    ensures state { λ _. ⌜ ((g : Terms) → Granting g 1 (now (starts .entry)) (now (lasts .entry)) part → now (state .exit) ≡ bodyFrom g first (kinds.Parameter setting) (slice first end (wordsOf (now (batch .entry)))) (now (state .entry)) .state) ⌝ }
+    ensures answer { λ r. ⌜ ((g : Terms) (s : ℕ) → Leads s group → Granting g 1 (now (starts .entry)) (now (lasts .entry)) part → r ≡ answerOf (bodyFrom g first (kinds.Parameter s) (slice first end (wordsOf (now (batch .entry)))) (now (state .entry)))) ⌝ }
+    ensures state { λ _. ⌜ ((g : Terms) (s : ℕ) → Leads s group → Granting g 1 (now (starts .entry)) (now (lasts .entry)) part → now (state .exit) ≡ bodyFrom g first (kinds.Parameter s) (slice first end (wordsOf (now (batch .entry)))) (now (state .entry)) .state) ⌝ }
 {
-    let mut at = first;
-    while at < end {
+    for at in first..end {
         let w = words::word(batch, at);
-        let address = fields::sub_address(w);
         let value = fields::data(w);
-        let reason = target_reason(address, value, starts, lasts, part);
-        if reason != 0 {
-            return Answer { reason, place: at };
+        let judged = judging::judge_parameter(
+            group,
+            fields::sub_address(w),
+            value,
+            starts,
+            lasts,
+            part,
+        );
+        if judged.reason != 0 {
+            return Answer {
+                reason: judged.reason,
+                place: at,
+            };
         }
-        let found = registers::register_3d(0x01, 0x00, address);
-        store_found(state, found, value);
-        at += 1;
+        store(state, judged.cell, value);
     }
-    Answer {
-        reason: 0,
-        place: at,
-    }
-}
-
-// Parameters under 02.0n.
-pub fn take_stage(batch: &[u8], first: usize, end: usize, setting: u32, state: &mut State) -> Answer
-    requires order { ⌜ first ≤ end ⌝ }
-    requires inside { ⌜ end ≤ length (now batch) / 4 ⌝ }
-    requires ty { ⌜ paraType setting ≡ 0x02 ⌝ }
-    requires sub { ⌜ paraSubType setting < 16 ⌝ }
-    ensures answer { λ r. ⌜ ((g : Terms) → r ≡ answerOf (bodyFrom g first (kinds.Parameter setting) (slice first end (wordsOf (now (batch .entry)))) (now (state .entry)))) ⌝ }
-    ensures state { λ _. ⌜ ((g : Terms) → now (state .exit) ≡ bodyFrom g first (kinds.Parameter setting) (slice first end (wordsOf (now (batch .entry)))) (now (state .entry)) .state) ⌝ }
-{
-    let sub = fields::sub_type(setting);
-    let mut at = first;
-    while at < end {
-        let w = words::word(batch, at);
-        let address = fields::sub_address(w);
-        let value = fields::data(w);
-        let reason = stage_reason(address, value);
-        if reason != 0 {
-            return Answer { reason, place: at };
-        }
-        let found = registers::register_3d(0x02, sub, address);
-        store_found(state, found, value);
-        at += 1;
-    }
-    Answer {
-        reason: 0,
-        place: at,
-    }
-}
-
-// Parameters under 02.2n.
-pub fn take_sample(
-    batch: &[u8],
-    first: usize,
-    end: usize,
-    setting: u32,
-    state: &mut State,
-) -> Answer
-    requires order { ⌜ first ≤ end ⌝ }
-    requires inside { ⌜ end ≤ length (now batch) / 4 ⌝ }
-    requires ty { ⌜ paraType setting ≡ 0x02 ⌝ }
-    requires low { ⌜ 0x20 ≤ paraSubType setting ⌝ }
-    requires high { ⌜ paraSubType setting < 0x30 ⌝ }
-    ensures answer { λ r. ⌜ ((g : Terms) → r ≡ answerOf (bodyFrom g first (kinds.Parameter setting) (slice first end (wordsOf (now (batch .entry)))) (now (state .entry)))) ⌝ }
-    ensures state { λ _. ⌜ ((g : Terms) → now (state .exit) ≡ bodyFrom g first (kinds.Parameter setting) (slice first end (wordsOf (now (batch .entry)))) (now (state .entry)) .state) ⌝ }
-{
-    let sub = fields::sub_type(setting);
-    let mut at = first;
-    while at < end {
-        let w = words::word(batch, at);
-        let address = fields::sub_address(w);
-        let value = fields::data(w);
-        let reason = sample_reason(address, value);
-        if reason != 0 {
-            return Answer { reason, place: at };
-        }
-        let found = registers::register_3d(0x02, sub, address);
-        store_found(state, found, value);
-        at += 1;
-    }
-    Answer {
-        reason: 0,
-        place: at,
-    }
+    through(end)
 }
 
 // A run of words for 2208 to 2210, from register number `index` of them on.
@@ -226,28 +92,24 @@ pub fn take_overlay(
     index: usize,
     state: &mut State,
 ) -> Answer
-    requires order { ⌜ first ≤ end ⌝ }
-    requires inside { ⌜ end ≤ length (now batch) / 4 ⌝ }
+    requires places { ⌜ Places first end (now batch) ⌝ }
     requires row { ⌜ index + (end - first) ≤ 3 ⌝ }
-    ensures answer { λ r. ⌜ ((g : Terms) → r ≡ answerOf (bodyFrom g first (kinds.Video (offsetOf (cell (84 + index)))) (slice first end (wordsOf (now (batch .entry)))) (now (state .entry)))) ⌝ }
-    ensures state { λ _. ⌜ ((g : Terms) → now (state .exit) ≡ bodyFrom g first (kinds.Video (offsetOf (cell (84 + index)))) (slice first end (wordsOf (now (batch .entry)))) (now (state .entry)) .state) ⌝ }
+    ensures answer { λ r. ⌜ ((g : Terms) → r ≡ answerOf (bodyFrom g first (kinds.Video (offsetOf (cell (firstVideo + index)))) (slice first end (wordsOf (now (batch .entry)))) (now (state .entry)))) ⌝ }
+    ensures state { λ _. ⌜ ((g : Terms) → now (state .exit) ≡ bodyFrom g first (kinds.Video (offsetOf (cell (firstVideo + index)))) (slice first end (wordsOf (now (batch .entry)))) (now (state .entry)) .state) ⌝ }
 {
     let mut k = index;
     let mut at = first;
     while at < end {
         let w = words::word(batch, at);
-        let reason = overlay_reason(k, w);
+        let reason = judging::overlay_reason(k, w);
         if reason != 0 {
             return Answer { reason, place: at };
         }
-        store(state, Cell(84 + k), w);
+        store(state, Cell(FIRST_VIDEO + k), w);
         at += 1;
         k += 1;
     }
-    Answer {
-        reason: 0,
-        place: at,
-    }
+    through(at)
 }
 
 // The same for a scaler: `base` is the cell of its first register, and `part` are the grants of its addresses.
@@ -262,8 +124,7 @@ pub fn take_scaler(
     part: Part,
     state: &mut State,
 ) -> Answer
-    requires order { ⌜ first ≤ end ⌝ }
-    requires inside { ⌜ end ≤ length (now batch) / 4 ⌝ }
+    requires places { ⌜ Places first end (now batch) ⌝ }
     requires row { ⌜ index + (end - first) ≤ 7 ⌝ }
     requires scaler { ⌜ IsScaler (base .0) ⌝ }
     requires kept { ⌜ part .to ≤ mostGrants ⌝ }
@@ -275,7 +136,7 @@ pub fn take_scaler(
     let mut at = first;
     while at < end {
         let w = words::word(batch, at);
-        let reason = scaler_reason(k, w, starts, lasts, part);
+        let reason = judging::scaler_reason(k, w, starts, lasts, part);
         if reason != 0 {
             return Answer { reason, place: at };
         }
@@ -283,8 +144,5 @@ pub fn take_scaler(
         at += 1;
         k += 1;
     }
-    Answer {
-        reason: 0,
-        place: at,
-    }
+    through(at)
 }

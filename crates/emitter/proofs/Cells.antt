@@ -1,28 +1,29 @@
--- What is emitted for one cell, by its mark.
+-- What is emitted for one cell, by its mark, and for rows that follow one another.
 -- Assumes nothing.
 use mathlib.Core.Path.{_≡_, refl, sym, ap}
 use mathlib.Core.Bool.{Bool}
 use mathlib.Core.List.{List, [], _∷_}
-use Prim.Native.Nat.{ℕ, zero, suc, _+_, _*_, _≤_, _<_, _^_}
+use Prim.Native.Nat.{ℕ, zero, suc, _+_, _*_, _-_, _≤_, _<_, _^_}
 use native.Mathlib.Omega.{arith}
 use lib.Dec.{T, ltb}
-use lib.ListN.{length}
+use lib.ListN.{length, length-append}
 use mir.Facts.{ltb-yes}
 use Rattle.laws.specs.Lists.{join, every, from}
 use Rattle.laws.proofs.Lists.{every-from}
 use Rattle.meaning.specs.declared.Cell.{Cell}
 use Rattle.meaning.specs.declared.SubAddress.{SubAddress}
-use Rattle.meaning.specs.Registers.{cell}
-use Rattle.meaning.specs.State.{valueAt, markAt}
-use Rattle.meaning.specs.Writer.{headerWord, ifMarked}
+use Rattle.meaning.specs.Registers.{cell, firstVideo, endVideo}
+use Rattle.meaning.specs.State.{valueAt, markAt, isMark, marked}
+use Rattle.meaning.specs.Writer.{headerWord, ifSo}
+use Rattle.meaning.proofs.Writing.{so-length, one-few}
 use Rattle.words.specs.Stores.{putWords}
 use Rattle.words.proofs.Stores.{put-none, put-append}
 use Rattle.registers.specs.Names.{offsetOf}
-use Rattle.emitter.specs.Emitted.{parameterOf, videoWords}
+use Rattle.emitter.specs.Emitted.{parameterOf, parametersFrom, videoWords}
 
-marked {ℓ} : {A : Type ℓ} (m : ℕ) (x : A) → (m ≡ 0 → ⊥) → ifMarked m x [] ≡ x ∷ []
-marked zero x n = absurd (n refl)
-marked (suc m) x n = refl
+so-marked {ℓ} : {A : Type ℓ} (m : ℕ) (x : A) → (m ≡ 0 → ⊥) → ifSo (isMark m) x [] ≡ x ∷ []
+so-marked zero x n = absurd (n refl)
+so-marked (suc m) x n = refl
 
 -- nothing is emitted: the place and the output stay
 pub emits-none : {ws : List ℕ} (out : List ℕ) (at : ℕ) → ws ≡ [] → (at ≡ at + length ws) × (out ≡ putWords out at ws)
@@ -40,7 +41,11 @@ module _ (st : List ℕ) (c : Cell) where
 
     pub parameter-one : (markAt st c ≡ 0 → ⊥) → parameterOf st c a ≡ (a .0 * 2 ^ 24 + valueAt st c) ∷ []
     unfolding parameterOf
-    parameter-one n = marked (markAt st c) _ n
+    parameter-one n = so-marked (markAt st c) _ n
+
+    pub parameter-few : length (parameterOf st c a) ≤ 1
+    unfolding parameterOf
+    parameter-few = omega (arith, so-length (marked st c) (a .0 * 2 ^ 24 + valueAt st c) [], one-few (marked st c))
 
   pub video-none : markAt st c ≡ 0 → videoWords st (c .0) ≡ []
   unfolding videoWords
@@ -48,16 +53,28 @@ module _ (st : List ℕ) (c : Cell) where
 
   pub video-one : (markAt st c ≡ 0 → ⊥) → videoWords st (c .0) ≡ headerWord 1 (offsetOf c .0) ∷ valueAt st c ∷ []
   unfolding videoWords
-  video-one n = ap join (marked (markAt st c) _ n)
+  video-one n = ap join (so-marked (markAt st c) _ n)
+
+-- at most a parameter for each row
+pub parameters-few : (st : List ℕ) (c a n : ℕ) → length (parametersFrom st c a n) ≤ n
+unfolding parametersFrom
+parameters-few st c a zero = omega arith
+parameters-few st c a (suc n) =
+    omega (
+      arith,
+      length-append (parameterOf st (cell c) (record { 0 = a })) (parametersFrom st (suc c) (suc a) n),
+      parameter-few st (cell c) (record { 0 = a }),
+      parameters-few st (suc c) (suc a) n,
+    )
 
 -- an offset fits its field of a header
 short : ℕ → Bool
 short c = ltb (offsetOf (cell c) .0) 65536
 
-tested-short : T (every short (from 84 17))
+tested-short : T (every short (from firstVideo (endVideo - firstVideo)))
 unfolding every from short offsetOf
 tested-short = tt
 
-pub offset-short : (c : Cell) → 84 ≤ c .0 → c .0 < 101 → offsetOf c .0 < 65536
+pub offset-short : (c : Cell) → firstVideo ≤ c .0 → c .0 < endVideo → offsetOf c .0 < 65536
 unfolding short
-offset-short c l h = ltb-yes (every-from short 84 17 tested-short (c .0) l (omega arith))
+offset-short c l h = ltb-yes (every-from short firstVideo (endVideo - firstVideo) tested-short (c .0) l (omega arith))

@@ -1,94 +1,148 @@
--- The words as they are emitted are the words that document 01 has the writer emit.
+-- The words as they are emitted are the words of the table's sections.
 -- Assumes nothing.
-use mathlib.Core.Path.{_≡_, refl, ap, ap₂, _∙_}
-use mathlib.Core.List.{List, [], _∷_, _++_, map}
-use Prim.Native.Nat.{ℕ, zero, suc, _+_, _≤_}
+use mathlib.Core.Path.{_≡_, refl, sym, ap, ap₂, _∙_}
+use mathlib.Core.List.{List, [], _∷_, _++_, map, map-append, append-assoc}
+use Prim.Native.Nat.{ℕ, zero, suc, _+_, _*_, _-_, _^_}
 use native.Mathlib.Omega.{arith}
+use native.Mathlib.Nat.{add-zero, add-suc}
 use lib.ListN.{length, length-append}
 use Rattle.laws.specs.Lists.{join, from}
 use Rattle.laws.proofs.Lists.{join-append}
 use Rattle.meaning.specs.declared.SubAddress.{SubAddress}
 use Rattle.meaning.specs.declared.VideoOffset.{VideoOffset}
-use Rattle.meaning.specs.Registers.{Row, Group, targetGroup, groups, scaler, videoRows}
-use Rattle.meaning.specs.State.{valueAt, markAt}
-use Rattle.meaning.specs.Writer.{headerWord, settingWord, ifMarked, parameters, packetOf, packets3D, packetsVideo, packetsOf, written}
-use Rattle.meaning.proofs.Writing.{at-most-184}
+use Rattle.meaning.specs.Registers.{cell, firstVideo, endVideo, Row, Group, Section, of3D, ofVideo, targetGroup, stage, sample, overlay, scaler, stageSection, sampleSection, sections3D, sectionsVideo, sections}
+use Rattle.meaning.specs.State.{valueAt, marked}
+use Rattle.meaning.specs.Writer.{headerWord, settingWord, ifSo, parameters, packet3DOf, packetsVideo, packetsIn, packetsAmong, wordsFor, written}
+use Rattle.meaning.proofs.Writing.{so-append}
 use Rattle.registers.specs.Names.{offsetOf}
-use Rattle.emitter.specs.Emitted.{inRow, parameterOf, parametersOf, packetWords, groupWords, videoWords, stageWords, sampleWords, many, words3D, wordsVideo}
+use Rattle.emitter.specs.Emitted.{wordsOfSections, parameterOf, parametersFrom, packetWords, targetWords, seriesFrom, many, videoWords}
+use Rattle.emitter.proofs.Runs.{inRow}
 
--- ---- lists
-
--- what stands in front if the mark is not 0 may be put there by itself
-marked-first {ℓ} : {A : Type ℓ} (m : ℕ) (x : A) (xs : List A) → ifMarked m x xs ≡ ifMarked m x [] ++ xs
-marked-first zero x xs = refl
-marked-first (suc m) x xs = refl
-
--- a row of numbers, mapped and joined
-row-join : (f : ℕ → List ℕ) (i n : ℕ) → join (map f (from i n)) ≡ inRow f i n
-unfolding from inRow
-row-join f i zero = refl
-row-join f i (suc n) = ap (λ (l : List ℕ). f i ++ l) (row-join f (suc i) n)
-
--- ---- the table's lists, element by element
+-- rows whose cells go on from number c, and their sub-addresses from a
+abbrev OnFrom : ℕ → ℕ → List (Row SubAddress) → Type 0
+OnFrom c a [] = Unit {0}
+OnFrom c a (r ∷ rs) = (r .cell ≡ cell c) × (r .name ≡ record { 0 = a }) × OnFrom (suc c) (suc a) rs
 
 module _ (st : List ℕ) where
-  same-parameters : (rs : List (Row SubAddress)) → parameters st rs ≡ parametersOf st rs
+  -- ---- the rows of a group
+
+  first-parameter : (r : Row SubAddress) (rs : List (Row SubAddress)) → parameters (marked st) st (r ∷ rs) ≡ parameterOf st (r .cell) (r .name) ++ parameters (marked st) st rs
   unfolding parameters parameterOf
-  same-parameters [] = refl
-  same-parameters (r ∷ rs) = marked-first (markAt st (r .cell)) _ (parameters st rs) ∙ ap (λ (ps : List ℕ). parameterOf st (r .cell) (r .name) ++ ps) (same-parameters rs)
+  first-parameter r rs = sym (so-append (marked st (r .cell)) (r .name .0 * 2 ^ 24 + valueAt st (r .cell)) [] (parameters (marked st) st rs))
 
-  packet-words : (s : ℕ) (ps : List ℕ) (more : List (List ℕ)) → join (packetOf s ps more) ≡ packetWords s ps ++ join more
-  unfolding packetWords
-  packet-words s [] more = refl
-  packet-words s (p ∷ ps) more = refl
+  rows-on : (c a : ℕ) (rs : List (Row SubAddress)) → OnFrom c a rs → parameters (marked st) st rs ≡ parametersFrom st c a (length rs)
+  unfolding parametersFrom parameters
+  rows-on c a [] on = refl
+  rows-on c a (r ∷ rs) on = first-parameter r rs ∙ rw (on .0, on .1, rows-on (suc c) (suc a) rs (on .2))
 
-  groups-words : (Gs : List Group) → join (packets3D st Gs) ≡ join (map (groupWords st) Gs)
-  unfolding packets3D groupWords
-  groups-words [] = refl
-  groups-words (G ∷ Gs) =
-      packet-words (settingWord (G .type) (G .subType)) (parameters st (G .rows)) (packets3D st Gs)
-      ∙ ap₂ (λ (ps more : List ℕ). packetWords (settingWord (G .type) (G .subType)) ps ++ more) (same-parameters (G .rows)) (groups-words Gs)
+  target-words : join (packetsIn (marked st) st (of3D targetGroup)) ≡ targetWords st
+  unfolding targetWords targetGroup
+  target-words = ap (packetWords (settingWord 0x01 0x00)) (first-parameter _ _ ∙ ap (λ (ps : List ℕ). parameterOf st (cell 0) (record { 0 = 0x3F }) ++ ps) (rows-on 1 0x50 _ (refl, refl, (refl, refl, (refl, refl, tt)))))
 
-  -- the words of a video row
-  abbrev ofVideo : Row VideoOffset → List ℕ
-  ofVideo r = join (ifMarked (markAt st (r .cell)) (headerWord 1 (r .name .0) ∷ valueAt st (r .cell) ∷ []) [])
+  -- ---- a series, by what each of its groups emits
 
-  video-words : (rs : List (Row VideoOffset)) → join (packetsVideo st rs) ≡ join (map ofVideo rs)
+  series-words : (f : ℕ → Group) (first rows low sub : ℕ)
+      → ((k : ℕ) → packetsIn (marked st) st (of3D (f k)) ≡ packet3DOf (settingWord 0x02 (sub + k)) (parametersFrom st (first + rows * k) low rows))
+      → (i n : ℕ) → wordsOfSections st (map (λ k. of3D (f k)) (from i n)) ≡ seriesFrom st first rows low sub i n
+  unfolding from packetsAmong seriesFrom
+  series-words f first rows low sub each i zero = refl
+  series-words f first rows low sub each i (suc n) =
+      join-append (packetsIn (marked st) st (of3D (f i))) (packetsAmong (marked st) st (map (λ k. of3D (f k)) (from (suc i) n)))
+      ∙ ap₂ (λ (p : List (List ℕ)) (more : List ℕ). join p ++ more) (each i) (series-words f first rows low sub each (suc i) n)
+
+  stages-words : wordsOfSections st (map stageSection (from 0 many)) ≡ seriesFrom st 4 2 0x50 0x00 0 many
+  unfolding stage
+  stages-words =
+      series-words stage 4 2 0x50 0x00
+      (λ k. ap (packet3DOf (settingWord 0x02 (0x00 + k))) (rows-on (4 + 2 * k) 0x50 (stage k .rows) (refl, refl, (ap cell (omega arith), refl, tt)))) 0 many
+
+  samples-words : wordsOfSections st (map sampleSection (from 0 many)) ≡ seriesFrom st 36 3 0x30 0x20 0 many
+  unfolding sample
+  samples-words =
+      series-words sample 36 3 0x30 0x20
+      (λ k.
+      ap (packet3DOf (settingWord 0x02 (0x20 + k)))
+      (rows-on (36 + 3 * k) 0x30 (sample k .rows) (refl, refl, (ap cell (omega arith), refl, (ap cell (omega arith), refl, tt))))) 0 many
+
+  -- ---- rows of video registers
+
+  abbrev videoRows : List (List (Row VideoOffset))
+  videoRows = overlay ∷ scaler 87 0x2000 2 ∷ scaler 94 0x3000 3 ∷ []
+
+  -- the words of one of them
+  abbrev ofRow : Row VideoOffset → List ℕ
+  ofRow r = join (ifSo (marked st (r .cell)) (headerWord 1 (r .name .0) ∷ valueAt st (r .cell) ∷ []) [])
+
+  row-words : (rs : List (Row VideoOffset)) → join (packetsVideo (marked st) st rs) ≡ join (map ofRow rs)
   unfolding packetsVideo
-  video-words [] = refl
-  video-words (r ∷ rs) =
-      ap join (marked-first (markAt st (r .cell)) _ (packetsVideo st rs))
-      ∙ join-append (ifMarked (markAt st (r .cell)) _ []) (packetsVideo st rs)
-      ∙ ap (λ (more : List ℕ). ofVideo r ++ more) (video-words rs)
+  row-words [] = refl
+  row-words (r ∷ rs) =
+      ap join (sym (so-append (marked st (r .cell)) (headerWord 1 (r .name .0) ∷ valueAt st (r .cell) ∷ []) [] (packetsVideo (marked st) st rs)))
+      ∙ join-append (ifSo (marked st (r .cell)) _ []) (packetsVideo (marked st) st rs)
+      ∙ ap (λ (more : List ℕ). ofRow r ++ more) (row-words rs)
 
-  -- ---- the whole table: groups stand in three parts, and the video rows bear the offsets of the cells from 84 on
+  rows-words : (rss : List (List (Row VideoOffset))) → wordsOfSections st (map ofVideo rss) ≡ join (map ofRow (join rss))
+  unfolding packetsAmong
+  rows-words [] = refl
+  rows-words (rs ∷ rss) =
+      join-append (packetsVideo (marked st) st rs) (packetsAmong (marked st) st (map ofVideo rss))
+      ∙ ap₂ (λ (a b : List ℕ). a ++ b) (row-words rs) (rows-words rss)
+      ∙ sym (ap join (map-append ofRow rs (join rss)) ∙ join-append (map ofRow rs) (map ofRow (join rss)))
 
-  three-parts : map (groupWords st) groups ≡ groupWords st targetGroup ∷ (map (stageWords st) (from 0 many) ++ map (sampleWords st) (from 0 many))
-  unfolding groups from
-  three-parts = refl
+  -- each bears the offset of its cell
+  tabled : join (map ofRow (join videoRows)) ≡ inRow (videoWords st) firstVideo (endVideo - firstVideo)
+  unfolding inRow videoWords offsetOf overlay scaler
+  tabled = refl
 
-  tabled-3D : join (map (groupWords st) groups) ≡ words3D st
-  unfolding words3D
-  tabled-3D =
-      ap join three-parts
-      ∙ ap (λ (l : List ℕ). groupWords st targetGroup ++ l)
-      (join-append (map (stageWords st) (from 0 many)) (map (sampleWords st) (from 0 many))
-      ∙ ap₂ (λ (a b : List ℕ). a ++ b) (row-join (stageWords st) 0 many) (row-join (sampleWords st) 0 many))
+  pub video-row : wordsOfSections st sectionsVideo ≡ inRow (videoWords st) firstVideo (endVideo - firstVideo)
+  video-row = rows-words videoRows ∙ tabled
 
-  tabled-video : join (map ofVideo videoRows) ≡ wordsVideo st
-  unfolding wordsVideo inRow videoWords offsetOf videoRows scaler
-  tabled-video = refl
+  -- ---- the table's two parts
 
-  pub written-parts : written st ≡ words3D st ++ wordsVideo st
-  unfolding written packetsOf
-  written-parts =
-      join-append (packets3D st groups) (packetsVideo st videoRows)
-      ∙ ap₂ (λ (a b : List ℕ). a ++ b) (groups-words groups ∙ tabled-3D) (video-words videoRows ∙ tabled-video)
+  packets-append : (ss ts : List Section) → packetsAmong (marked st) st (ss ++ ts) ≡ packetsAmong (marked st) st ss ++ packetsAmong (marked st) st ts
+  unfolding packetsAmong
+  packets-append [] ts = refl
+  packets-append (s ∷ ss) ts =
+      ap (λ (ps : List (List ℕ)). packetsIn (marked st) st s ++ ps) (packets-append ss ts)
+      ∙ sym (append-assoc (packetsIn (marked st) st s) (packetsAmong (marked st) st ss) (packetsAmong (marked st) st ts))
 
-  -- ---- how many words there are
+  both : (ss ts : List Section) → wordsOfSections st (ss ++ ts) ≡ wordsOfSections st ss ++ wordsOfSections st ts
+  both ss ts = ap join (packets-append ss ts) ∙ join-append (packetsAmong (marked st) st ss) (packetsAmong (marked st) st ts)
 
-  pub written-length : length (written st) ≡ length (words3D st) + length (wordsVideo st)
-  written-length = ap length written-parts ∙ length-append (words3D st) (wordsVideo st)
+  pub words-3D : wordsOfSections st sections3D ≡ targetWords st ++ (seriesFrom st 4 2 0x50 0x00 0 many ++ seriesFrom st 36 3 0x30 0x20 0 many)
+  unfolding packetsAmong
+  words-3D =
+      join-append (packetsIn (marked st) st (of3D targetGroup)) (packetsAmong (marked st) st (map stageSection (from 0 many) ++ map sampleSection (from 0 many)))
+      ∙ ap₂ (λ (a b : List ℕ). a ++ b) target-words
+      (both (map stageSection (from 0 many)) (map sampleSection (from 0 many)) ∙ ap₂ (λ (a b : List ℕ). a ++ b) stages-words samples-words)
 
-  pub few-words : length (words3D st) + length (wordsVideo st) ≤ 184
-  few-words = omega (arith, written-length, at-most-184 st)
+  pub written-parts : written st ≡ wordsOfSections st sections3D ++ wordsOfSections st sectionsVideo
+  unfolding written wordsFor sections
+  written-parts = both sections3D sectionsVideo
+
+  pub written-length : length (written st) ≡ length (wordsOfSections st sections3D) + length (wordsOfSections st sectionsVideo)
+  written-length = ap length written-parts ∙ length-append (wordsOfSections st sections3D) (wordsOfSections st sectionsVideo)
+
+  -- ---- the loops' words, number by number
+
+  -- row k of those from cell c and sub-address a on
+  abbrev pub rowAt : ℕ → ℕ → ℕ → List ℕ
+  rowAt c a k = parameterOf st (cell (c + k)) (record { 0 = a + k })
+
+  rows-from : (c a k n : ℕ) → parametersFrom st (c + k) (a + k) n ≡ inRow (rowAt c a) k n
+  unfolding parametersFrom inRow
+  rows-from c a k zero = refl
+  rows-from c a k (suc n) =
+      ap (λ (ps : List ℕ). rowAt c a k ++ ps) (rw (← add-suc c k, ← add-suc a k) (rows-from c a (suc k) n))
+
+  pub rows-row : (c a n : ℕ) → parametersFrom st c a n ≡ inRow (rowAt c a) 0 (n - 0)
+  rows-row c a n = let all : n - 0 ≡ n = omega arith in rw all (rw (add-zero c, add-zero a) at (rows-from c a 0 n))
+
+  -- group n of a series
+  abbrev pub groupAt : ℕ → ℕ → ℕ → ℕ → ℕ → List ℕ
+  groupAt first rows low sub n = packetWords (settingWord 0x02 (sub + n)) (parametersFrom st (first + rows * n) low rows)
+
+  pub series-row : (first rows low sub i n : ℕ) → seriesFrom st first rows low sub i n ≡ inRow (groupAt first rows low sub) i n
+  unfolding seriesFrom inRow
+  series-row first rows low sub i zero = refl
+  series-row first rows low sub i (suc n) = ap (λ (more : List ℕ). groupAt first rows low sub i ++ more) (series-row first rows low sub (suc i) n)

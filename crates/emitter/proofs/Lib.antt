@@ -1,5 +1,4 @@
-pub mod Emitted
 pub mod Cells
-pub mod Counted
 pub mod Runs
 pub mod Packets
+pub mod Emitted

@@ -1,4 +1,5 @@
--- The words of a state as they are emitted: of a cell, of a group of the table, of all groups, of all video cells. proofs/Emitted ties them to `written`.
+-- The words of a state as they are emitted: of a cell, of rows that follow one another, of a packet, of groups of equal size, of video cells.
+-- proofs/Emitted ties them to the words of the table's sections.
 -- Assumes nothing.
 use mathlib.Core.List.{List, [], _∷_, _++_}
 use Prim.Native.Nat.{ℕ, zero, suc, _+_, _*_, _/_, _≤_, _<_, _^_}
@@ -6,57 +7,46 @@ use lib.ListN.{length}
 use Rattle.laws.specs.Lists.{join}
 use Rattle.meaning.specs.declared.Cell.{Cell}
 use Rattle.meaning.specs.declared.SubAddress.{SubAddress}
-use Rattle.meaning.specs.Registers.{cell, Row, Group, targetGroup, stage, sample}
-use Rattle.meaning.specs.Batch.{offset3D}
-use Rattle.meaning.specs.State.{valueAt, markAt}
-use Rattle.meaning.specs.Writer.{headerWord, settingWord, ifMarked}
+use Rattle.meaning.specs.Registers.{cell, firstVideo, Section}
+use Rattle.meaning.specs.State.{valueAt, markAt, marked}
+use Rattle.meaning.specs.Writer.{headerWord, settingWord, ifSo, packet3DOf, packetsAmong}
 use Rattle.registers.specs.Names.{offsetOf}
 
--- what f gives for n numbers from i on, one after another
-unfoldable pub inRow : (ℕ → List ℕ) → ℕ → ℕ → List ℕ
-inRow f i zero = []
-inRow f i (suc n) = f i ++ inRow f (suc i) n
+-- the words of sections of the table: all their marked cells
+abbrev pub wordsOfSections : List ℕ → List Section → List ℕ
+wordsOfSections st ss = join (packetsAmong (marked st) st ss)
 
 -- the parameter of a cell, if it is marked
 unfoldable pub parameterOf : List ℕ → Cell → SubAddress → List ℕ
-parameterOf st c a = ifMarked (markAt st c) (a .0 * 2 ^ 24 + valueAt st c) []
+parameterOf st c a = ifSo (marked st c) (a .0 * 2 ^ 24 + valueAt st c) []
 
--- the parameters of rows
-abbrev pub parametersOf : List ℕ → List (Row SubAddress) → List ℕ
-parametersOf st [] = []
-parametersOf st (r ∷ rs) = parameterOf st (r .cell) (r .name) ++ parametersOf st rs
+-- the parameters of n rows from cell c and sub-address a on
+unfoldable pub parametersFrom : List ℕ → ℕ → ℕ → ℕ → List ℕ
+parametersFrom st c a zero = []
+parametersFrom st c a (suc n) = parameterOf st (cell c) (record { 0 = a }) ++ parametersFrom st (suc c) (suc a) n
 
--- the words of the packet of these parameters; without a parameter there is no packet
-unfoldable pub packetWords : ℕ → List ℕ → List ℕ
-packetWords s [] = []
-packetWords s (p ∷ ps) = headerWord (length (s ∷ p ∷ ps)) offset3D ∷ s ∷ p ∷ ps
+-- the words of the packet of a setting and parameters; without a parameter there is no packet
+abbrev pub packetWords : ℕ → List ℕ → List ℕ
+packetWords s ps = join (packet3DOf s ps)
 
--- the words of a group
-unfoldable pub groupWords : List ℕ → Group → List ℕ
-groupWords st G = packetWords (settingWord (G .type) (G .subType)) (parametersOf st (G .rows))
+-- the words of 01.00
+unfoldable pub targetWords : List ℕ → List ℕ
+targetWords st = packetWords (settingWord 0x01 0x00) (parameterOf st (cell 0) (record { 0 = 0x3F }) ++ parametersFrom st 1 0x50 3)
 
--- the packet of a video cell, if it is marked
-unfoldable pub videoWords : List ℕ → ℕ → List ℕ
-videoWords st c = join (ifMarked (markAt st (cell c)) (headerWord 1 (offsetOf (cell c) .0) ∷ valueAt st (cell c) ∷ []) [])
+-- groups of 02 that have so many rows each, from the first one's cell and sub-type on; their sub-addresses begin at `low`. The words of n of
+-- them from number i on
+unfoldable pub seriesFrom : List ℕ → ℕ → ℕ → ℕ → ℕ → ℕ → ℕ → List ℕ
+seriesFrom st first rows low sub i zero = []
+seriesFrom st first rows low sub i (suc n) =
+    packetWords (settingWord 0x02 (sub + i)) (parametersFrom st (first + rows * i) low rows) ++ seriesFrom st first rows low sub (suc i) n
 
 -- stages and samples are numbered from 0 to 15
 abbrev pub many : ℕ
 many = 16
 
--- the words of stage n, and of sample n
-abbrev pub stageWords : List ℕ → ℕ → List ℕ
-stageWords st n = groupWords st (stage n)
-
-abbrev pub sampleWords : List ℕ → ℕ → List ℕ
-sampleWords st n = groupWords st (sample n)
-
--- of all groups
-unfoldable pub words3D : List ℕ → List ℕ
-words3D st = groupWords st targetGroup ++ (inRow (stageWords st) 0 many ++ inRow (sampleWords st) 0 many)
-
--- and of all video cells
-unfoldable pub wordsVideo : List ℕ → List ℕ
-wordsVideo st = inRow (videoWords st) 84 17
+-- the packet of a video cell, if it is marked
+unfoldable pub videoWords : List ℕ → ℕ → List ℕ
+videoWords st c = join (ifSo (marked st (cell c)) (headerWord 1 (offsetOf (cell c) .0) ∷ valueAt st (cell c) ∷ []) [])
 
 -- there is room in the bytes for words from a place on; no words need none
 abbrev pub Room : List ℕ → ℕ → List ℕ → Type 0
@@ -64,4 +54,4 @@ Room out at ws = 0 < length ws → at + length ws ≤ length out / 4
 
 -- a marked 3D value is 24 bits wide, so that a sub-address fits above it
 abbrev pub Narrow : List ℕ → Type 0
-Narrow st = (c : ℕ) → c < 84 → 0 < markAt st (cell c) → valueAt st (cell c) < 2 ^ 24
+Narrow st = (c : ℕ) → c < firstVideo → 0 < markAt st (cell c) → valueAt st (cell c) < 2 ^ 24

@@ -1,4 +1,2 @@
-pub mod Grants
-pub mod Room
 pub mod Keeping
 pub mod Asking

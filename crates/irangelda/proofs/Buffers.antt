@@ -23,7 +23,7 @@ use Rattle.meaning.specs.Answers.{badState, badGrants, badBuffer, success, numb
 use Rattle.meaning.specs.Reader.{judge, follow, run, batchAnswer, readAnswer, readLeaves}
 use Rattle.meaning.specs.Writer.{written, writeAnswer}
 use Rattle.meaning.specs.Lister.{listAnswer, listLeaves}
-use Rattle.meaning.specs.Calls.{mostBytes, bufferFine, wordBufferFine, readCall, readCallLeaves, writeCall, writeCallLeaves, listCall, listCallLeaves}
+use Rattle.meaning.specs.Exported.{mostBytes, bufferFine, wordBufferFine, exportedRead, exportedReadLeaves, exportedWrite, exportedWriteLeaves, exportedList, exportedListLeaves}
 use Rattle.meaning.proofs.Bytes.{length-words, length-bytes}
 
 -- ---- three buffers of words
@@ -86,8 +86,8 @@ module _ (batch gs st : List ℕ) where
   abbrev Fine : Bool → Type 0
   Fine b = every wordBufferFine (batch ∷ gs ∷ st ∷ []) ≡ b
 
-  pub read-13 : Fine false → (badBuffer ≡ numberOf (readCall batch gs st)) × (st ≡ readCallLeaves batch gs st)
-  unfolding readCall readCallLeaves
+  pub read-13 : Fine false → (badBuffer ≡ numberOf (exportedRead batch gs st)) × (st ≡ exportedReadLeaves batch gs st)
+  unfolding exportedRead exportedReadLeaves
   read-13 e = rw e (refl, refl)
 
   -- the first and the last of them
@@ -106,8 +106,8 @@ module _ (batch gs st : List ℕ) where
 
   pub read-answered : Fine true → {r : Answer} → r ≡ readAnswer (wordsOf batch) (wordsOf gs) (wordsOf st)
       → {left : List ℕ} → left ≡ settle r (over (bytesOf (readLeaves (wordsOf batch) (wordsOf gs) (wordsOf st))) st) st
-      → {n : ℕ} → n ≡ numberOf r → (n ≡ numberOf (readCall batch gs st)) × (left ≡ readCallLeaves batch gs st)
-  unfolding readCall readCallLeaves
+      → {n : ℕ} → n ≡ numberOf r → (n ≡ numberOf (exportedRead batch gs st)) × (left ≡ exportedReadLeaves batch gs st)
+  unfolding exportedRead exportedReadLeaves
   read-answered e {r} a l n = rw (e, ← a) (n, l ∙ ap (λ (x : List ℕ). settle r x st) (whole-state e))
 
   -- a place is small
@@ -123,25 +123,25 @@ module _ (batch gs st : List ℕ) where
 -- ---- write
 
 module _ (st gs out : List ℕ) where
-  pub write-13 : every wordBufferFine (st ∷ gs ∷ out ∷ []) ≡ false → (badBuffer ≡ numberOf (writeCall st gs out)) × (out ≡ writeCallLeaves st gs out)
-  unfolding writeCall writeCallLeaves
+  pub write-13 : every wordBufferFine (st ∷ gs ∷ out ∷ []) ≡ false → (badBuffer ≡ numberOf (exportedWrite st gs out)) × (out ≡ exportedWriteLeaves st gs out)
+  unfolding exportedWrite exportedWriteLeaves
   write-13 e = rw e (refl, refl)
 
   pub write-answered : every wordBufferFine (st ∷ gs ∷ out ∷ []) ≡ true → {r : Answer} → r ≡ writeAnswer (wordsOf st) (wordsOf gs) (length out / 4)
       → {left : List ℕ} → left ≡ settle r (over (bytesOf (written (wordsOf st))) out) out
-      → {n : ℕ} → n ≡ numberOf r → (n ≡ numberOf (writeCall st gs out)) × (left ≡ writeCallLeaves st gs out)
-  unfolding writeCall writeCallLeaves
+      → {n : ℕ} → n ≡ numberOf r → (n ≡ numberOf (exportedWrite st gs out)) × (left ≡ exportedWriteLeaves st gs out)
+  unfolding exportedWrite exportedWriteLeaves
   write-answered e a l n = rw (e, ← a) (n, l)
 
 -- ---- list
 
 module _ (st out : List ℕ) where
-  pub list-13 : wordBufferFine st && bufferFine out ≡ false → (badBuffer ≡ numberOf (listCall st out)) × (out ≡ listCallLeaves st out)
-  unfolding listCall listCallLeaves
+  pub list-13 : wordBufferFine st && bufferFine out ≡ false → (badBuffer ≡ numberOf (exportedList st out)) × (out ≡ exportedListLeaves st out)
+  unfolding exportedList exportedListLeaves
   list-13 e = rw e (refl, refl)
 
   pub list-answered : wordBufferFine st && bufferFine out ≡ true → {r : Answer} → r ≡ listAnswer (wordsOf st) (length out)
       → {left : List ℕ} → left ≡ listLeaves (wordsOf st) out
-      → {n : ℕ} → n ≡ numberOf r → (n ≡ numberOf (listCall st out)) × (left ≡ listCallLeaves st out)
-  unfolding listCall listCallLeaves listLeaves
+      → {n : ℕ} → n ≡ numberOf r → (n ≡ numberOf (exportedList st out)) × (left ≡ exportedListLeaves st out)
+  unfolding exportedList exportedListLeaves listLeaves
   list-answered e a l n = rw (e, ← a) (n, l ∙ rw (← a))

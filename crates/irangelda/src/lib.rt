@@ -4,19 +4,21 @@ ghost use mathlib.Core.List.{[], _∷_};
 ghost use Prim.Native.Nat.{_≤_};
 ghost use Rattle.laws.specs.Lists.{every};
 ghost use Rattle.meaning.specs.Answers.{numberOf};
-ghost use Rattle.meaning.specs.Calls as calls;
+ghost use Rattle.meaning.specs.Exported as exported;
 use meaning::Answer;
+use meaning::BAD_BUFFER;
+use meaning::MOST_BYTES;
 
 // 13: no buffer is over 65,536 bytes,
 fn buffer_fine(bytes: &[u8]) -> bool
-    ensures fine { λ r. ⌜ r ≡ calls.bufferFine (now (bytes .entry)) ⌝ }
+    ensures fine { λ r. ⌜ r ≡ exported.bufferFine (now (bytes .entry)) ⌝ }
 {
-    bytes.len() <= 65536
+    bytes.len() <= MOST_BYTES
 }
 
 // and a buffer of words is a multiple of 4.
 fn word_buffer_fine(bytes: &[u8]) -> bool
-    ensures fine { λ r. ⌜ r ≡ calls.wordBufferFine (now (bytes .entry)) ⌝ }
+    ensures fine { λ r. ⌜ r ≡ exported.wordBufferFine (now (bytes .entry)) ⌝ }
 {
     if !buffer_fine(bytes) {
         return false;
@@ -26,7 +28,7 @@ fn word_buffer_fine(bytes: &[u8]) -> bool
 
 // The same of the three buffers of words that reader and writer are lent.
 fn word_buffers_fine(first: &[u8], second: &[u8], third: &[u8]) -> bool
-    ensures fine { λ r. ⌜ r ≡ every calls.wordBufferFine (now (first .entry) ∷ now (second .entry) ∷ now (third .entry) ∷ []) ⌝ }
+    ensures fine { λ r. ⌜ r ≡ every exported.wordBufferFine (now (first .entry) ∷ now (second .entry) ∷ now (third .entry) ∷ []) ⌝ }
 {
     if !buffer_fine(first) {
         return false;
@@ -42,7 +44,7 @@ fn word_buffers_fine(first: &[u8], second: &[u8], third: &[u8]) -> bool
 
 // The answer as one number. No place is larger than a buffer is long.
 fn number(answer: Answer) -> u64
-    requires place { ⌜ answer .place ≤ calls.mostBytes ⌝ }
+    requires place { ⌜ answer .place ≤ exported.mostBytes ⌝ }
     ensures number { λ r. ⌜ r ≡ numberOf answer ⌝ }
 {
     answer.place as u64 * 256 + answer.reason as u64
@@ -52,11 +54,11 @@ fn number(answer: Answer) -> u64
 // the whole batch is accepted.
 #[no_mangle]
 pub extern "C" fn irangelda_read(batch: &[u8], grants: &[u8], state: &mut [u8]) -> u64
-    ensures number { λ r. ⌜ r ≡ numberOf (calls.readCall (now (batch .entry)) (now (grants .entry)) (now (state .entry))) ⌝ }
-    ensures bytes { λ _. ⌜ now (state .exit) ≡ calls.readCallLeaves (now (batch .entry)) (now (grants .entry)) (now (state .entry)) ⌝ }
+    ensures number { λ r. ⌜ r ≡ numberOf (exported.exportedRead (now (batch .entry)) (now (grants .entry)) (now (state .entry))) ⌝ }
+    ensures bytes { λ _. ⌜ now (state .exit) ≡ exported.exportedReadLeaves (now (batch .entry)) (now (grants .entry)) (now (state .entry)) ⌝ }
 {
     if !word_buffers_fine(batch, grants, state) {
-        return 13;
+        return BAD_BUFFER;
     }
     number(reader::read(batch, grants, state))
 }
@@ -64,11 +66,11 @@ pub extern "C" fn irangelda_read(batch: &[u8], grants: &[u8], state: &mut [u8]) 
 // Writes the batch that reaches a state from the empty state: 13, 1, 2, 12 and 11 as document 01 has them, else 0 and the words written.
 #[no_mangle]
 pub extern "C" fn irangelda_write(state: &[u8], grants: &[u8], out: &mut [u8]) -> u64
-    ensures number { λ r. ⌜ r ≡ numberOf (calls.writeCall (now (state .entry)) (now (grants .entry)) (now (out .entry))) ⌝ }
-    ensures bytes { λ _. ⌜ now (out .exit) ≡ calls.writeCallLeaves (now (state .entry)) (now (grants .entry)) (now (out .entry)) ⌝ }
+    ensures number { λ r. ⌜ r ≡ numberOf (exported.exportedWrite (now (state .entry)) (now (grants .entry)) (now (out .entry))) ⌝ }
+    ensures bytes { λ _. ⌜ now (out .exit) ≡ exported.exportedWriteLeaves (now (state .entry)) (now (grants .entry)) (now (out .entry)) ⌝ }
 {
     if !word_buffers_fine(state, grants, out) {
-        return 13;
+        return BAD_BUFFER;
     }
     number(writer::write(state, grants, out))
 }
@@ -76,14 +78,14 @@ pub extern "C" fn irangelda_write(state: &[u8], grants: &[u8], out: &mut [u8]) -
 // Lists a state: 13, 1 and 11, else 0 and the bytes written.
 #[no_mangle]
 pub extern "C" fn irangelda_list(state: &[u8], out: &mut [u8]) -> u64
-    ensures number { λ r. ⌜ r ≡ numberOf (calls.listCall (now (state .entry)) (now (out .entry))) ⌝ }
-    ensures bytes { λ _. ⌜ now (out .exit) ≡ calls.listCallLeaves (now (state .entry)) (now (out .entry)) ⌝ }
+    ensures number { λ r. ⌜ r ≡ numberOf (exported.exportedList (now (state .entry)) (now (out .entry))) ⌝ }
+    ensures bytes { λ _. ⌜ now (out .exit) ≡ exported.exportedListLeaves (now (state .entry)) (now (out .entry)) ⌝ }
 {
     if !word_buffer_fine(state) {
-        return 13;
+        return BAD_BUFFER;
     }
     if !buffer_fine(out) {
-        return 13;
+        return BAD_BUFFER;
     }
     number(lister::list(state, out))
 }

@@ -18,12 +18,12 @@ use Rattle.meaning.specs.State.{markAt, wellFormed, empty}
 use Rattle.meaning.specs.Answers.{numberOf}
 use Rattle.meaning.specs.Text.{ascii}
 use Rattle.meaning.specs.Reader.{readLeaves}
-use Rattle.meaning.specs.Lister.{listing}
-use Rattle.meaning.specs.Calls.{mostBytes, bufferFine, wordBufferFine, readCall, readCallLeaves, listCall, listCallLeaves}
+use Rattle.meaning.specs.Lister.{mostListed, listing}
+use Rattle.meaning.specs.Exported.{mostBytes, bufferFine, wordBufferFine, exportedRead, exportedReadLeaves, exportedList, exportedListLeaves}
 use Rattle.meaning.proofs.Bytes.{words-bytes, length-words, length-bytes, number-tells, settle-done}
 use Rattle.meaning.proofs.States.{formed-iff, empty-well-formed}
-use Rattle.meaning.proofs.Outputs.{at-most-2568}
-use Rattle.meaning.proofs.Calls.{read-call-range, list-call, list-call-leaves}
+use Rattle.meaning.proofs.Outputs.{listing-at-most}
+use Rattle.meaning.proofs.Exported.{read-call-range, list-call, list-call-leaves}
 use Rattle.meaning.proofs.Promises.{stays-well-formed, listing-is-exact}
 use Rattle.list_batch.specs.Put.{Put}
 use Rattle.list_batch.specs.Printed.{decimal5, refusalLine, k1Grant, emptyBytes, answered, stateLeft, printed}
@@ -58,11 +58,11 @@ module _ (batch : List ℕ) (accepted : answered batch .reason ≡ 0) where
   left = readLeaves (wordsOf batch) (wordsOf k1Grant) (wordsOf emptyBytes)
 
   abbrev bytes : List ℕ
-  bytes = readCallLeaves batch k1Grant emptyBytes
+  bytes = exportedReadLeaves batch k1Grant emptyBytes
 
   bytes-left : bytes ≡ bytesOf left
-  unfolding readCallLeaves answered left
-  bytes-left = settle-done (readCall batch k1Grant emptyBytes) _ emptyBytes accepted
+  unfolding exportedReadLeaves answered left
+  bytes-left = settle-done (exportedRead batch k1Grant emptyBytes) _ emptyBytes accepted
 
   left-formed : T (wellFormed left)
   unfolding left emptyBytes empty
@@ -74,7 +74,7 @@ module _ (batch : List ℕ) (accepted : answered batch .reason ≡ 0) where
   size : length bytes ≡ 808
   size = rw bytes-left (omega (arith, length-bytes left, formed-iff left .0 left-formed .size))
 
-  fine : (out : List ℕ) → length out ≡ 2568 → T (wordBufferFine bytes && bufferFine out)
+  fine : (out : List ℕ) → length out ≡ mostListed → T (wordBufferFine bytes && bufferFine out)
   unfolding wordBufferFine bufferFine
   fine out room =
       let few : length bytes ≤ mostBytes = omega (arith, size) in
@@ -87,11 +87,11 @@ module _ (batch : List ℕ) (accepted : answered batch .reason ≡ 0) where
   printed-listing = rw accepted
 
   -- what the lister answers and leaves is what is printed
-  pub listed : (out new : List ℕ) (n : ℕ) → length out ≡ 2568 → n ≡ numberOf (listCall bytes out) → new ≡ listCallLeaves bytes out
+  pub listed : (out new : List ℕ) (n : ℕ) → length out ≡ mostListed → n ≡ numberOf (exportedList bytes out) → new ≡ exportedListLeaves bytes out
       → (n / 256 ≡ length (printed batch)) × (new ≡ over (printed batch) out)
   listed out new n room e l =
       let st = wordsOf bytes in
-      let fits : length (listing st) ≤ length out = omega (arith, at-most-2568 st) in
+      let fits : length (listing st) ≤ length out = omega (arith, listing-at-most st) in
       let done = listing-is-exact st out state-formed fits in
       let number : n ≡ length (listing st) * 256 + 0 = e ∙ ap numberOf (list-call bytes out (fine out room) ∙ done .answered) in (
         rw printed-listing (omega arith),
@@ -101,9 +101,9 @@ module _ (batch : List ℕ) (accepted : answered batch .reason ≡ 0) where
 -- ---- a refusal
 
 -- the number tells the reason and the place
-pub tells : (batch : List ℕ) {n : ℕ} → n ≡ numberOf (readCall batch k1Grant emptyBytes) → (n % 256 ≡ answered batch .reason) × (n / 256 ≡ answered batch .place)
+pub tells : (batch : List ℕ) {n : ℕ} → n ≡ numberOf (exportedRead batch k1Grant emptyBytes) → (n % 256 ≡ answered batch .reason) × (n / 256 ≡ answered batch .place)
 unfolding answered
-tells batch e = rw e (number-tells (readCall batch k1Grant emptyBytes) (read-call-range batch k1Grant emptyBytes))
+tells batch e = rw e (number-tells (exportedRead batch k1Grant emptyBytes) (read-call-range batch k1Grant emptyBytes))
 
 line-length : (r p : ℕ) → length (refusalLine r p) ≤ 25
 unfolding refusalLine
@@ -116,7 +116,7 @@ line-length r p =
       five-digits p,
     )
 
-pub refused : (batch out new : List ℕ) (n end : ℕ) → length out ≡ 2568 → n ≡ numberOf (readCall batch k1Grant emptyBytes) → n % 256 ≢ 0
+pub refused : (batch out new : List ℕ) (n end : ℕ) → length out ≡ mostListed → n ≡ numberOf (exportedRead batch k1Grant emptyBytes) → n % 256 ≢ 0
     → Put out 0 (refusalLine (n % 256) (n / 256)) new end → (end ≡ length (printed batch)) × (new ≡ over (printed batch) out)
 unfolding printed
 refused batch out new n end room e z p =

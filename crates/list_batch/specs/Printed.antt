@@ -11,7 +11,7 @@ use Rattle.meaning.specs.State.{empty}
 use Rattle.meaning.specs.Answers.{success}
 use Rattle.meaning.specs.Text.{ascii}
 use Rattle.meaning.specs.Lister.{digit, listing}
-use Rattle.meaning.specs.Calls.{readCall, readCallLeaves}
+use Rattle.meaning.specs.Exported.{exportedRead, exportedReadLeaves}
 use Rattle.meaning.specs.Cases.{grant}
 
 -- ---- "`reason=` and ` place=` in decimal"
@@ -39,10 +39,10 @@ unfoldable pub emptyBytes : List ℕ
 emptyBytes = bytesOf empty
 
 unfoldable pub answered : List ℕ → Answer
-answered batch = readCall batch k1Grant emptyBytes
+answered batch = exportedRead batch k1Grant emptyBytes
 
 unfoldable pub stateLeft : List ℕ → List ℕ
-stateLeft batch = wordsOf (readCallLeaves batch k1Grant emptyBytes)
+stateLeft batch = wordsOf (exportedReadLeaves batch k1Grant emptyBytes)
 
 -- ---- what is printed
 

@@ -4,9 +4,13 @@ ghost use Prim.Native.Nat.{_+_, _≤_, _<_};
 ghost use lib.ListN.{length};
 ghost use Rattle.laws.specs.Lists.{over};
 ghost use Rattle.meaning.specs.Answers.{numberOf};
-ghost use Rattle.meaning.specs.Calls.{readCall, readCallLeaves};
+ghost use Rattle.meaning.specs.Exported.{mostBytes, exportedRead, exportedReadLeaves};
+ghost use Rattle.meaning.specs.Lister.{mostListed};
 ghost use Rattle.list_batch.specs.Put.{Put};
 ghost use Rattle.list_batch.specs.Printed.{digitFor, decimal5, refusalLine, k1Grant, printed};
+use meaning::MOST_BYTES;
+use meaning::MOST_LISTED;
+use meaning::STATE_WORDS;
 
 // The grant of document 01's case K1: role 1, start 00100000h, length 00080000h, reach 00080000h.
 const K1_GRANT: [u8; 16] = *b"\
@@ -17,14 +21,14 @@ const K1_GRANT: [u8; 16] = *b"\
     ";
 
 // One byte more than a call takes: a longer input is refused by its length, without being held whole.
-const INPUT_ROOM: usize = 65537;
+const INPUT_ROOM: usize = MOST_BYTES + 1;
 
 // As many bytes as the longest listing has; a refusal has fewer.
-const TEXT_ROOM: usize = 2568;
+const TEXT_ROOM: usize = MOST_LISTED;
 
 // Where the array is made, so that no proof but this one has to look at 65,537 zeros.
 fn input_buffer() -> [u8; INPUT_ROOM]
-    ensures whole { λ r. ⌜ 65537 ≡ length r ⌝ }
+    ensures whole { λ r. ⌜ mostBytes + 1 ≡ length r ⌝ }
 {
     [0; INPUT_ROOM]
 }
@@ -80,8 +84,8 @@ fn put_refusal(out: &mut [u8], reason: u64, place: u64) -> usize
 
 // Reads a batch under K1's grant. The answer is the call's number.
 fn read_under_k1(batch: &[u8], state: &mut [u8]) -> u64
-    ensures number { λ r. ⌜ r ≡ numberOf (readCall (now (batch .entry)) k1Grant (now (state .entry))) ⌝ }
-    ensures bytes { λ _. ⌜ now (state .exit) ≡ readCallLeaves (now (batch .entry)) k1Grant (now (state .entry)) ⌝ }
+    ensures number { λ r. ⌜ r ≡ numberOf (exportedRead (now (batch .entry)) k1Grant (now (state .entry))) ⌝ }
+    ensures bytes { λ _. ⌜ now (state .exit) ≡ exportedReadLeaves (now (batch .entry)) k1Grant (now (state .entry)) ⌝ }
 {
     let grant = K1_GRANT;
     irangelda::irangelda_read(batch, &grant, state)
@@ -89,11 +93,11 @@ fn read_under_k1(batch: &[u8], state: &mut [u8]) -> u64
 
 // What is printed of a batch. The answer is how many bytes that is.
 fn report(batch: &[u8], out: &mut [u8]) -> usize
-    requires room { ⌜ length (now out) ≡ 2568 ⌝ }
+    requires room { ⌜ length (now out) ≡ mostListed ⌝ }
     ensures count { λ r. ⌜ r ≡ length (printed (now (batch .entry))) ⌝ }
     ensures text { λ _. ⌜ now (out .exit) ≡ over (printed (now (batch .entry))) (now (out .entry)) ⌝ }
 {
-    let mut state = [0u8; 808];
+    let mut state = [0u8; 4 * STATE_WORDS];
     let answer = read_under_k1(batch, &mut state);
     let reason = answer % 256;
     if reason != 0 {

@@ -1,6 +1,4 @@
-pub mod Digits
+pub mod Head
 pub mod Lines
-pub mod Listing
-pub mod Pieces
 pub mod Rows
-pub mod Stores
+pub mod Listing

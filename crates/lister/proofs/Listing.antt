@@ -3,7 +3,7 @@
 use mathlib.Core.Path.{_≡_, refl, sym, ap, ap₂, _∙_}
 use mathlib.Core.Bool.{Bool, true, false, not}
 use mathlib.Core.List.{List, _++_, append-assoc}
-use Prim.Native.Nat.{ℕ, _+_, _*_, _≤_, _<_}
+use Prim.Native.Nat.{ℕ, _+_, _*_, _-_, _≤_, _<_}
 use native.Mathlib.Omega.{arith}
 use borrow.Author.Tests.{lt-leb, le-leb}
 use lib.ListN.{length, length-append}
@@ -12,16 +12,18 @@ use Rattle.laws.specs.Lists.{join, over}
 use Rattle.laws.proofs.Lists.{join-append}
 use Rattle.laws.proofs.Tests.{holds-of}
 use Rattle.laws.proofs.Arms.{told-true}
-use Rattle.meaning.specs.declared.Cell.{Cell}
-use Rattle.meaning.specs.State.{stateWords, wellFormed}
+use Rattle.laws.proofs.Stores.{sets-over}
+use Rattle.meaning.specs.Registers.{firstVideo, endVideo}
+use Rattle.meaning.specs.State.{stateWords, wellFormed, marked, countIn}
 use Rattle.meaning.specs.Answers.{badState, noRoom, success, answer}
 use Rattle.meaning.specs.Text.{ascii}
-use Rattle.meaning.specs.Lister.{hex, decimal, cellLines, listing, listAnswer, listLeaves}
+use Rattle.meaning.specs.Lister.{decimal, cellLines, listing, listAnswer, listLeaves}
+use Rattle.meaning.proofs.Writing.{count-few}
 use Rattle.meaning.proofs.States.{formed-iff}
-use Rattle.states.specs.Marks.{markedIn}
-use Rattle.lister.specs.Lines.{cellLine3D, cellLineVideo, linesFrom, headLine}
-use Rattle.laws.proofs.Stores.{sets-over}
-use Rattle.lister.proofs.Stores.{behind}
+use Rattle.lines.specs.Lines.{cellLine3D, cellLineVideo}
+use Rattle.lines.proofs.Stores.{behind}
+use Rattle.lines.proofs.Pieces.{wide-3D, wide-video}
+use Rattle.lister.specs.Listed.{linesFrom, headLine}
 use Rattle.lister.proofs.Lines.{lines-count, lines-length}
 use Rattle.lister.proofs.Rows.{in-cell-order}
 
@@ -31,63 +33,73 @@ use Rattle.lister.proofs.Rows.{in-cell-order}
 regroup : (h d e x y : List ℕ) → h ++ (d ++ (e ++ (x ++ y))) ≡ ((h ++ (d ++ e)) ++ x) ++ y
 regroup h d e x y = simp append-assoc
 
--- each kind of line has one width
-pub wide-3D : (c : Cell) (v : ℕ) → length (cellLine3D c v) ≡ 26
-unfolding hex cellLine3D
-wide-3D c v = refl
+module _ (st : List ℕ) where
+  -- the lines of either kind, and the marked cells
+  abbrev lines3D : List (List ℕ)
+  lines3D = linesFrom cellLine3D st 0 firstVideo
 
-pub wide-video : (c : Cell) (v : ℕ) → length (cellLineVideo c v) ≡ 22
-unfolding hex cellLineVideo
-wide-video c v = refl
+  abbrev linesVideo : List (List ℕ)
+  linesVideo = linesFrom cellLineVideo st firstVideo (endVideo - firstVideo)
 
--- as many lines as marked cells
-line-each : (st : List ℕ) → length (cellLines st) ≡ markedIn st 0 84 + markedIn st 84 17
-line-each st =
-    rw (in-cell-order st)
-    (length-append (linesFrom cellLine3D st 0 84) (linesFrom cellLineVideo st 84 17)
-    ∙ ap₂ (λ (x y : ℕ). x + y) (lines-count cellLine3D st 0 84) (lines-count cellLineVideo st 84 17))
+  abbrev marked3D : ℕ
+  marked3D = countIn (marked st) 0 firstVideo
 
--- what the lister counts before it stores a byte: the marked cells of each kind, and the digits of their number
-module _ (st : List ℕ) (a b digits : ℕ) (in-3D : a ≡ markedIn st 0 84) (in-video : b ≡ markedIn st 84 17) (counted : digits ≡ length (decimal (a + b))) where
-  abbrev all3D : List ℕ
-  all3D = join (linesFrom cellLine3D st 0 84)
+  abbrev markedVideo : ℕ
+  markedVideo = countIn (marked st) firstVideo (endVideo - firstVideo)
 
-  abbrev allVideo : List ℕ
-  allVideo = join (linesFrom cellLineVideo st 84 17)
+  -- as many lines as marked cells,
+  line-each : length (cellLines st) ≡ marked3D + markedVideo
+  line-each =
+      rw (in-cell-order st)
+      (length-append lines3D linesVideo
+      ∙ ap₂ (λ (x y : ℕ). x + y) (lines-count cellLine3D st 0 firstVideo) (lines-count cellLineVideo st firstVideo (endVideo - firstVideo)))
 
-  -- the head line and the two kinds of line
-  parts : listing st ≡ (headLine (a + b) ++ all3D) ++ allVideo
-  unfolding listing headLine
-  parts =
-      rw (line-each st, in-cell-order st, ← in-3D, ← in-video, join-append (linesFrom cellLine3D st 0 84) (linesFrom cellLineVideo st 84 17))
-      (regroup (ascii "cells=") (decimal (a + b)) (ascii "\n") all3D allVideo)
+  -- and no more of these than cells
+  pub few : (marked3D ≤ firstVideo) × (markedVideo ≤ endVideo - firstVideo)
+  few = (count-few (marked st) 0 firstVideo, count-few (marked st) firstVideo (endVideo - firstVideo))
 
-  -- and how long each is
-  length-3D : length all3D ≡ 26 * a
-  length-3D = rw in-3D (lines-length cellLine3D st 26 wide-3D 0 84)
+  -- what the lister counts before it stores a byte: the marked cells of each kind, and the digits of their number
+  module _ (a b digits : ℕ) (in-3D : a ≡ marked3D) (in-video : b ≡ markedVideo) (counted : digits ≡ length (decimal (a + b))) where
+    -- the head line and the two kinds of line
+    parts : listing st ≡ (headLine (a + b) ++ join lines3D) ++ join linesVideo
+    unfolding listing headLine
+    parts =
+        rw (line-each, in-cell-order st, ← in-3D, ← in-video, join-append lines3D linesVideo)
+        (regroup (ascii "cells=") (decimal (a + b)) (ascii "\n") (join lines3D) (join linesVideo))
 
-  length-video : length allVideo ≡ 22 * b
-  length-video = rw in-video (lines-length cellLineVideo st 22 wide-video 84 17)
+    -- and how long each is
+    length-3D : length (join lines3D) ≡ 26 * a
+    length-3D = rw in-3D (lines-length cellLine3D st 26 wide-3D 0 firstVideo)
 
-  length-head : length (headLine (a + b)) ≡ 7 + digits
-  unfolding headLine
-  length-head = omega (arith, length-append (decimal (a + b)) (ascii "\n"), counted)
+    length-video : length (join linesVideo) ≡ 22 * b
+    length-video = rw in-video (lines-length cellLineVideo st 22 wide-video firstVideo (endVideo - firstVideo))
 
-  -- so many bytes are needed
-  pub listing-length : length (listing st) ≡ 7 + digits + 26 * a + 22 * b
-  listing-length =
-      rw parts
-      (omega (arith, length-append (headLine (a + b) ++ all3D) allVideo, length-append (headLine (a + b)) all3D, length-head, length-3D, length-video))
+    length-head : length (headLine (a + b)) ≡ 7 + digits
+    unfolding headLine
+    length-head = omega (arith, length-append (decimal (a + b)) (ascii "\n"), counted)
 
-  -- the three texts, stored one behind the other, lie over the front of the output
-  pub listing-stored : (out : List ℕ) → length (listing st) ≤ length out
-      → sets (sets (sets out 0 (headLine (a + b))) (7 + digits) all3D) (7 + digits + 26 * a) allVideo ≡ over (listing st) out
-  listing-stored out h =
-      behind out 0 (7 + digits + 26 * a) (headLine (a + b) ++ all3D) allVideo
-      (behind out 0 (7 + digits) (headLine (a + b)) all3D refl (omega (arith, length-head)))
-      (omega (arith, length-append (headLine (a + b)) all3D, length-head, length-3D))
-      ∙ ap (sets out 0) (sym parts)
-      ∙ sets-over (listing st) out h
+    -- so many bytes are needed
+    pub listing-length : length (listing st) ≡ 7 + digits + 26 * a + 22 * b
+    listing-length =
+        rw parts
+        (omega (
+          arith,
+          length-append (headLine (a + b) ++ join lines3D) (join linesVideo),
+          length-append (headLine (a + b)) (join lines3D),
+          length-head,
+          length-3D,
+          length-video,
+        ))
+
+    -- the three texts, stored one behind the other, lie over the front of the output
+    pub listing-stored : (out : List ℕ) → length (listing st) ≤ length out
+        → sets (sets (sets out 0 (headLine (a + b))) (7 + digits) (join lines3D)) (7 + digits + 26 * a) (join linesVideo) ≡ over (listing st) out
+    listing-stored out h =
+        behind out 0 (7 + digits + 26 * a) (headLine (a + b) ++ join lines3D) (join linesVideo)
+        (behind out 0 (7 + digits) (headLine (a + b)) (join lines3D) refl (omega (arith, length-head)))
+        (omega (arith, length-append (headLine (a + b)) (join lines3D), length-head, length-3D))
+        ∙ ap (sets out 0) (sym parts)
+        ∙ sets-over (listing st) out h
 
 -- ---- the answers
 

@@ -5,7 +5,7 @@ use mathlib.Core.Path.{_≡_, refl}
 use mathlib.Core.Logic.{_↔_}
 use mathlib.Core.Bool.{Bool, not, _&&_, Bool·beq}
 use mathlib.Core.List.{[], _∷_}
-use Prim.Native.Nat.{ℕ, _<_}
+use Prim.Native.Nat.{ℕ, _+_, _<_}
 use native.Mathlib.Omega.{arith}
 use lib.Dec.{T, ltb, eqb}
 use lib.ListN.{length, take, getD, set}
@@ -15,28 +15,28 @@ use Rattle.laws.specs.Tests.{oneOf}
 use Rattle.laws.proofs.Lists.{every-from}
 use Rattle.laws.proofs.Tests.{beq-iff}
 use Rattle.meaning.specs.Words.{bytesOf, count, offset, paraAdr, paraOS, paraType, paraSubType, subAddress, data24}
-use Rattle.meaning.specs.Registers.{formats, bytesAmong, bytesPerPixel, formatTable, alphaConstants, location, formatByte, levels, filters, mapping, alphaSelect, memoryLocation, targetGroup, stage, sample, groups, scaler, videoRows, find, findAmong, find3D, findVideo, registerAmong, registerAt}
+use Rattle.meaning.specs.Registers.{cells, formats, bytesAmong, bytesPerPixel, formatTable, alphaConstants, location, formatByte, levels, filters, mapping, alphaSelect, memoryLocation, targetGroup, stage, sample, sections, overlay, scaler, find, findAmong, find3D, findOffset, findVideo, registerAmong, registerIn, registerAt}
 use Rattle.meaning.specs.Grants.{grantFine, grantsFine, covers, granted}
 use Rattle.meaning.specs.Batch.{typeAllowed, allowed}
 use Rattle.meaning.specs.State.{cellFormed, wellFormed, empty, apply, applyAll}
 use Rattle.meaning.specs.Positions.{kindOf, after, nextKind, nextLeft, goes, carries, writeAt, writesFrom, writesOf}
 use Rattle.meaning.specs.Reader.{unless, runIn, headerReason, valueReason, wordReason, judge, run, batchAnswer, readAnswer, readLeaves}
 use Rattle.meaning.specs.Answers.{answer}
-use Rattle.meaning.specs.Writer.{parameters, packets3D, packetsVideo, packetsOf, written, writable, lowestBad, writeAnswer}
+use Rattle.meaning.specs.Writer.{parameters, packetsVideo, packetsAmong, wordsFor, written, mostWritten, writable, lowestBad, writeAnswer}
 use Rattle.meaning.specs.Text.{ascii}
-use Rattle.meaning.specs.Lister.{digit, hex, decimal, linesOf, lines3D, cellLines, listing}
+use Rattle.meaning.specs.Lister.{digit, hex, decimal, linesOf, linesAmong, cellLines, listing}
 use Rattle.meaning.specs.Cases.{holding, cases, slips, Holds, keeping, breaking, full, formatBytes}
 
 -- "K1 to K12 are one table, with a single proved statement about the definitions over it"
 pub cases-hold : All Holds cases
-unfolding cases holding count offset paraAdr paraOS paraType paraSubType subAddress data24 formats bytesAmong bytesPerPixel alphaConstants location formatByte levels filters mapping alphaSelect memoryLocation targetGroup stage sample groups scaler videoRows find findAmong find3D findVideo registerAmong registerAt grantFine grantsFine covers granted typeAllowed allowed cellFormed wellFormed empty apply applyAll kindOf after nextKind nextLeft goes carries writeAt writesFrom writesOf unless runIn headerReason valueReason wordReason judge run batchAnswer readAnswer readLeaves every some from oneOf
+unfolding cases holding count offset paraAdr paraOS paraType paraSubType subAddress data24 formats bytesAmong bytesPerPixel alphaConstants location formatByte levels filters mapping alphaSelect memoryLocation targetGroup stage sample sections overlay scaler find findAmong find3D findVideo findOffset registerAmong registerIn registerAt grantFine grantsFine covers granted typeAllowed allowed cellFormed wellFormed empty apply applyAll kindOf after nextKind nextLeft goes carries writeAt writesFrom writesOf unless runIn headerReason valueReason wordReason judge run batchAnswer readAnswer readLeaves every some from oneOf
 cases-hold = (
   (refl, refl),
   ((refl, refl), ((refl, refl), ((refl, refl), ((refl, refl), ((refl, refl), ((refl, refl), ((refl, refl), ((refl, refl), ((refl, refl), ((refl, refl), ((refl, refl), tt))))))))))),
 )
 
 pub slips-hold : All Holds slips
-unfolding slips holding count offset paraAdr paraOS paraType paraSubType subAddress data24 formats bytesAmong bytesPerPixel alphaConstants location formatByte levels filters mapping alphaSelect memoryLocation targetGroup stage sample groups scaler videoRows find findAmong find3D findVideo registerAmong registerAt grantFine grantsFine covers granted typeAllowed allowed cellFormed wellFormed empty apply applyAll kindOf after nextKind nextLeft goes carries writeAt writesFrom writesOf unless runIn headerReason valueReason wordReason judge run batchAnswer readAnswer readLeaves every some from oneOf
+unfolding slips holding count offset paraAdr paraOS paraType paraSubType subAddress data24 formats bytesAmong bytesPerPixel alphaConstants location formatByte levels filters mapping alphaSelect memoryLocation targetGroup stage sample sections overlay scaler find findAmong find3D findVideo findOffset registerAmong registerIn registerAt grantFine grantsFine covers granted typeAllowed allowed cellFormed wellFormed empty apply applyAll kindOf after nextKind nextLeft goes carries writeAt writesFrom writesOf unless runIn headerReason valueReason wordReason judge run batchAnswer readAnswer readLeaves every some from oneOf
 slips-hold = ((refl, refl), ((refl, refl), ((refl, refl), ((refl, refl), ((refl, refl), ((refl, refl), ((refl, refl), tt)))))))
 
 -- state and grants both bad: 1 comes before 2
@@ -45,13 +45,13 @@ unfolding wellFormed grantsFine readAnswer
 order-example = refl
 
 -- one packet for a stage's cell, and one for a video cell
-pub written-example : written (set (set (holding 10 1) 84 0x07FF07FF) 185 1) ≡ 0x0002043C ∷ 0x03020000 ∷ 0x50000001 ∷ 0x00012208 ∷ 0x07FF07FF ∷ []
-unfolding holding empty parameters packets3D packetsVideo packetsOf written targetGroup stage sample groups scaler videoRows from
+pub written-example : written (set (set (holding 10 1) 84 0x07FF07FF) (cells + 84) 1) ≡ 0x0002043C ∷ 0x03020000 ∷ 0x50000001 ∷ 0x00012208 ∷ 0x07FF07FF ∷ []
+unfolding holding empty parameters packetsVideo packetsAmong wordsFor written targetGroup stage sample sections overlay scaler from
 written-example = refl
 
 -- "a 3D value of 2^24 or more"
-pub unwritable-example : writeAnswer (holding 0 0x1000000) [] 184 ≡ answer 12 0
-unfolding holding empty cellFormed wellFormed grantsFine writable lowestBad writeAnswer valueReason unless alphaConstants registerAt registerAmong targetGroup stage sample groups scaler videoRows every from
+pub unwritable-example : writeAnswer (holding 0 0x1000000) [] mostWritten ≡ answer 12 0
+unfolding holding empty cellFormed wellFormed grantsFine writable lowestBad writeAnswer valueReason unless alphaConstants registerAt registerIn registerAmong targetGroup stage sample sections overlay scaler every from
 unwritable-example = refl
 
 -- "words are 32 bits little-endian"
@@ -60,17 +60,17 @@ bytes-example = refl
 
 -- "Whole example, case K1"
 pub listing-example : listing (holding 1 0x001000) ≡ ascii "cells=1\nreg=01.00.50 val=00001000\n"
-unfolding holding empty digit hex decimal linesOf lines3D cellLines listing targetGroup stage sample groups scaler videoRows from
+unfolding holding empty digit hex decimal linesOf linesAmong cellLines listing targetGroup stage sample sections overlay scaler from
 listing-example = refl
 
 -- "A video line reads `reg=23f0 val=` and eight digits", in lower case
 pub video-line-example : listing (holding 90 0x0009ABC0) ≡ ascii "cells=1\nreg=23f0 val=0009abc0\n"
-unfolding holding empty digit hex decimal linesOf lines3D cellLines listing targetGroup stage sample groups scaler videoRows from
+unfolding holding empty digit hex decimal linesOf linesAmong cellLines listing targetGroup stage sample sections overlay scaler from
 video-line-example = refl
 
 -- "at most 184 words" and "at most 2,568 bytes": a state with every cell marked needs as many
 pub full-is-the-most : (length (written full) ≡ 184) × (length (listing full) ≡ 2568) × (take 10 (listing full) ≡ ascii "cells=101\n")
-unfolding full digit hex decimal linesOf lines3D cellLines listing parameters packets3D packetsVideo packetsOf written targetGroup stage sample groups scaler videoRows from
+unfolding full digit hex decimal linesOf linesAmong cellLines listing parameters packetsVideo packetsAmong wordsFor written targetGroup stage sample sections overlay scaler from
 full-is-the-most = (refl, refl, refl)
 
 -- the rules of the grant list, from both sides

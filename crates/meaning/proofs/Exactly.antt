@@ -29,8 +29,8 @@ use Rattle.meaning.specs.State.{wellFormed}
 use Rattle.meaning.specs.Positions.{nextKind, nextLeft, positionFrom, positionAt, goes, carries}
 use Rattle.meaning.specs.Answers.{answer, provided}
 use Rattle.meaning.specs.Reader.{unless, runIn, reason3D, reasonVideo, headerReason, valueReason, foundReason, wordReason, judge, onward, follow, ended, run, batchAnswer, readAnswer}
-use Rattle.meaning.specs.Reasons.{VideoRun, Given, bad-offset, bad-count, bad-run, bad-setting, no-register, bit-set, bad-value, not-granted, NoneBefore, Reads}
-use Rattle.meaning.specs.Reasons.Reads.{bad-state, bad-grants, at-word, ends-inside, accepted}
+use Rattle.meaning.specs.Reasons.{VideoRun, Given, bad-offset, bad-count, bad-run, bad-setting, no-register, bit-set, bad-value, not-granted, NoneBefore, ReaderGives}
+use Rattle.meaning.specs.Reasons.ReaderGives.{bad-state, bad-grants, at-word, ends-inside, accepted}
 use Rattle.meaning.proofs.Packets.{never-both}
 use Rattle.meaning.proofs.Reading.{batch-permitted}
 use Rattle.meaning.proofs.Places.{Good, good-next}
@@ -255,20 +255,20 @@ module _ (batch grants st : List ℕ) where
   abbrev g : Terms
   g = termsOf grants
 
-  told-batch : T (wellFormed st) → T (grantsFine grants) → {a : Answer} → Outcome g Setting 0 batch a → Reads batch grants st (a .reason) (a .place)
+  told-batch : T (wellFormed st) → T (grantsFine grants) → {a : Answer} → Outcome g Setting 0 batch a → ReaderGives batch grants st (a .reason) (a .place)
   unfolding positionAt
   told-batch s l (stops {r} {p} h c j) = at-word s l h (clean-none g batch p c) (judge-given g _ _ _ r (good-at g Setting 0 batch p tt (omega arith) c) j)
   told-batch s l (ends zero c q) = accepted s l (clean-none g batch (length batch) c) q
   told-batch s l (ends (suc n) c q) = ends-inside s l (clean-none g batch (length batch) c) (omega arith)
 
   told-as : (b c : Bool) → wellFormed st ≡ b → grantsFine grants ≡ c
-      → Reads batch grants st (provided b 1 (provided c 2 (batchAnswer g batch)) .reason) (provided b 1 (provided c 2 (batchAnswer g batch)) .place)
+      → ReaderGives batch grants st (provided b 1 (provided c 2 (batchAnswer g batch)) .reason) (provided b 1 (provided c 2 (batchAnswer g batch)) .place)
   unfolding batchAnswer
   told-as false c e f = bad-state (fails-of e)
   told-as true false e f = bad-grants (holds-of e) (fails-of f)
   told-as true true e f = told-batch (holds-of e) (holds-of f) (outcome g Setting 0 batch)
 
-  pub read-told : Reads batch grants st (readAnswer batch grants st .reason) (readAnswer batch grants st .place)
+  pub read-told : ReaderGives batch grants st (readAnswer batch grants st .reason) (readAnswer batch grants st .place)
   unfolding readAnswer
   read-told = told-as (wellFormed st) (grantsFine grants) refl refl
 
@@ -276,7 +276,7 @@ module _ (batch grants st : List ℕ) where
   unfolding readAnswer
   read-batch s l = rw (true-of (wellFormed st) s, true-of (grantsFine grants) l)
 
-  pub read-answer : {r p : ℕ} → Reads batch grants st r p → readAnswer batch grants st ≡ answer r p
+  pub read-answer : {r p : ℕ} → ReaderGives batch grants st r p → readAnswer batch grants st ≡ answer r p
   unfolding readAnswer batchAnswer positionAt
   read-answer (bad-state n) = rw (false-of (wellFormed st) n)
   read-answer (bad-grants s n) = rw (true-of (wellFormed st) s, false-of (grantsFine grants) n)
@@ -297,14 +297,14 @@ module _ (batch grants st : List ℕ) where
       ∙ ap (λ (n : ℕ). answer (ended n .reason) (length batch)) q
 
   -- what an accepted batch was judged by
-  pub accepted-parts : {r p : ℕ} → Reads batch grants st r p → r ≡ 0 → T (wellFormed st) × T (grantsFine grants)
+  pub accepted-parts : {r p : ℕ} → ReaderGives batch grants st r p → r ≡ 0 → T (wellFormed st) × T (grantsFine grants)
   accepted-parts (bad-state n) e = absurd (omega arith)
   accepted-parts (bad-grants s n) e = absurd (omega arith)
   accepted-parts (at-word s l h b v) e = (s, l)
   accepted-parts (ends-inside s l b q) e = (s, l)
   accepted-parts (accepted s l b q) e = (s, l)
 
-  pub read-range : {r p : ℕ} → Reads batch grants st r p → r ≤ 10
+  pub read-range : {r p : ℕ} → ReaderGives batch grants st r p → r ≤ 10
   read-range (bad-state n) = omega arith
   read-range (bad-grants s n) = omega arith
   read-range (at-word s l h b v) = omega (arith, given-range g v .1)

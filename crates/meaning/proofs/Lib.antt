@@ -13,8 +13,8 @@ pub mod Stored
 pub mod Stretches
 pub mod Round
 pub mod Exactly
-pub mod Memory
+pub mod Fitter
 pub mod Outputs
 pub mod Bytes
-pub mod Calls
+pub mod Exported
 pub mod Promises

@@ -1,15 +1,16 @@
 -- Each reason of the writer and of the lister is given exactly then; a listing is at most 2,568 bytes.
 -- Assumes nothing.
-use mathlib.Core.Path.{_≡_, refl, ap}
+use mathlib.Core.Path.{_≡_, refl, sym, ap, ap₂, _∙_}
 use mathlib.Core.Bool.{Bool, true, false, cond}
 use mathlib.Core.List.{List, [], _∷_, _++_}
-use Prim.Native.Nat.{ℕ, _*_, _≤_, _<_}
+use Prim.Native.Nat.{ℕ, _+_, _*_, _≤_, _<_}
 use native.Mathlib.Omega.{arith}
+use native.Mathlib.Nat.{mul-add}
 use native.Mathlib.Decide.{ℕ-discrete, decLt}
 use borrow.Author.Tests.{le-leb, lt-leb, leb-true, leb-false}
 use lib.Dec.{leb, ltb}
 use lib.ListN.{length, length-append}
-use Rattle.laws.specs.Lists.{join}
+use Rattle.laws.specs.Lists.{join, from}
 use Rattle.laws.proofs.Lists.{length-join-append}
 use Rattle.laws.proofs.Tests.{true-of, false-of, holds-of, fails-of}
 use Rattle.meaning.specs.declared.SubAddress.{SubAddress}
@@ -17,15 +18,16 @@ use Rattle.meaning.specs.declared.VideoOffset.{VideoOffset}
 use Rattle.meaning.specs.declared.Found.{Found}
 use Rattle.meaning.specs.declared.Found.the-variants.{At, Missing}
 use Rattle.meaning.specs.declared.Answer.{Answer}
-use Rattle.meaning.specs.Registers.{cells, cell, Row, Group, groups, videoRows}
+use Rattle.meaning.specs.Registers.{cells, cell, Row, Section, of3D, ofVideo, targetGroup, stage, sample, overlay, scaler, sections}
 use Rattle.meaning.specs.Grants.{Terms, termsOf, grantsFine}
-use Rattle.meaning.specs.State.{valueAt, markAt, wellFormed}
+use Rattle.meaning.specs.State.{valueAt, marked, one, countIn, markedCells, wellFormed}
 use Rattle.meaning.specs.Answers.{answer, provided}
-use Rattle.meaning.specs.Writer.{written, lowestBad, exceptAt, writeAnswer}
+use Rattle.meaning.specs.Writer.{written, countRows, lowestBad, exceptAt, writeAnswer}
 use Rattle.meaning.specs.Text.{ascii}
-use Rattle.meaning.specs.Lister.{hex, decimal, line3D, lineVideo, linesOf, lines3D, cellLines, listing, listAnswer}
-use Rattle.meaning.specs.Reasons.{CellFine, Writes, Lists}
-use Rattle.meaning.proofs.Writing.{AllFine, marked-join, rowsIn, rows-84, rows-17}
+use Rattle.meaning.specs.Lister.{hex, decimal, line3D, lineVideo, linesOf, linesIn, linesAmong, cellLines, mostListed, listing, listAnswer}
+use Rattle.meaning.specs.Reasons.{CellFine, WriterGives, ListerGives}
+use Rattle.meaning.proofs.Table.{SectionAt, rowsIn, Sections, rowsAmong, table, all-rows}
+use Rattle.meaning.proofs.Writing.{AllFine, so-length, so-join, rows-few, count-add, count-3D, count-video}
 use Rattle.meaning.proofs.Round.{Lowest, lowest-told}
 
 -- ---- the writer
@@ -42,14 +44,14 @@ module _ (st grants : List ℕ) (room : ℕ) where
   by b c f d = provided b 1 (provided c 2 (exceptAt f (provided d 11 (answer 0 need))))
 
   told-as : (b c : Bool) (f : Found) (d : Bool) → wellFormed st ≡ b → grantsFine grants ≡ c → Lowest g st 0 cells f → leb need room ≡ d
-      → Writes st grants room (by b c f d .reason) (by b c f d .place)
-  told-as false c f d e h low l = Writes.bad-state (fails-of e)
-  told-as true false f d e h low l = Writes.bad-grants (holds-of e) (fails-of h)
-  told-as true true (At c) d e h low l = Writes.not-writable (holds-of e) (holds-of h) (low .to) (low .bad) (λ x k. low .before x (omega arith) k)
-  told-as true true Missing true e h low l = Writes.done (holds-of e) (holds-of h) (λ c k. low c (omega arith) k) (leb-true need room l)
-  told-as true true Missing false e h low l = Writes.no-room (holds-of e) (holds-of h) (λ c k. low c (omega arith) k) (leb-false need room l)
+      → WriterGives st grants room (by b c f d .reason) (by b c f d .place)
+  told-as false c f d e h low l = WriterGives.bad-state (fails-of e)
+  told-as true false f d e h low l = WriterGives.bad-grants (holds-of e) (fails-of h)
+  told-as true true (At c) d e h low l = WriterGives.not-writable (holds-of e) (holds-of h) (low .to) (low .bad) (λ x k. low .before x (omega arith) k)
+  told-as true true Missing true e h low l = WriterGives.done (holds-of e) (holds-of h) (λ c k. low c (omega arith) k) (leb-true need room l)
+  told-as true true Missing false e h low l = WriterGives.no-room (holds-of e) (holds-of h) (λ c k. low c (omega arith) k) (leb-false need room l)
 
-  pub write-told : Writes st grants room (writeAnswer st grants room .reason) (writeAnswer st grants room .place)
+  pub write-told : WriterGives st grants room (writeAnswer st grants room .reason) (writeAnswer st grants room .place)
   unfolding writeAnswer
   write-told = told-as (wellFormed st) (grantsFine grants) (lowestBad g st 0 cells) (leb need room) refl refl (lowest-told g st 0 cells) refl
 
@@ -65,47 +67,47 @@ module _ (st grants : List ℕ) (room : ℕ) where
   lowest-none (At d) low fine = absurd (low .bad (fine (d .0) (low .to)))
   lowest-none Missing low fine = refl
 
-  pub write-answer : {r p : ℕ} → Writes st grants room r p → writeAnswer st grants room ≡ answer r p
+  pub write-answer : {r p : ℕ} → WriterGives st grants room r p → writeAnswer st grants room ≡ answer r p
   unfolding writeAnswer
-  write-answer (Writes.bad-state n) = rw (false-of (wellFormed st) n)
-  write-answer (Writes.bad-grants s n) = rw (true-of (wellFormed st) s, false-of (grantsFine grants) n)
-  write-answer (Writes.not-writable {c} s h l bad before) =
+  write-answer (WriterGives.bad-state n) = rw (false-of (wellFormed st) n)
+  write-answer (WriterGives.bad-grants s n) = rw (true-of (wellFormed st) s, false-of (grantsFine grants) n)
+  write-answer (WriterGives.not-writable {c} s h l bad before) =
       rw (true-of (wellFormed st) s, true-of (grantsFine grants) h, lowest-at (lowestBad g st 0 cells) c (lowest-told g st 0 cells) l bad before)
-  write-answer (Writes.no-room s h fine l) =
+  write-answer (WriterGives.no-room s h fine l) =
       rw (true-of (wellFormed st) s, true-of (grantsFine grants) h, lowest-none (lowestBad g st 0 cells) (lowest-told g st 0 cells) fine, lt-leb need room l)
-  write-answer (Writes.done s h fine l) =
+  write-answer (WriterGives.done s h fine l) =
       rw (true-of (wellFormed st) s, true-of (grantsFine grants) h, lowest-none (lowestBad g st 0 cells) (lowest-told g st 0 cells) fine, le-leb need room l)
 
-  pub write-range : {r p : ℕ} → Writes st grants room r p → r ≤ 12
-  write-range (Writes.bad-state n) = omega arith
-  write-range (Writes.bad-grants s n) = omega arith
-  write-range (Writes.not-writable s h l bad before) = omega arith
-  write-range (Writes.no-room s h fine l) = omega arith
-  write-range (Writes.done s h fine l) = omega arith
+  pub write-range : {r p : ℕ} → WriterGives st grants room r p → r ≤ 12
+  write-range (WriterGives.bad-state n) = omega arith
+  write-range (WriterGives.bad-grants s n) = omega arith
+  write-range (WriterGives.not-writable s h l bad before) = omega arith
+  write-range (WriterGives.no-room s h fine l) = omega arith
+  write-range (WriterGives.done s h fine l) = omega arith
 
 -- ---- the lister
 
 module _ (st : List ℕ) (room : ℕ) where
   listed-as : (b d : Bool) → wellFormed st ≡ b → leb (length (listing st)) room ≡ d
-      → Lists st room (provided b 1 (provided d 11 (answer 0 (length (listing st)))) .reason) (provided b 1 (provided d 11 (answer 0 (length (listing st)))) .place)
-  listed-as false d e l = Lists.bad-state (fails-of e)
-  listed-as true true e l = Lists.done (holds-of e) (leb-true (length (listing st)) room l)
-  listed-as true false e l = Lists.no-room (holds-of e) (leb-false (length (listing st)) room l)
+      → ListerGives st room (provided b 1 (provided d 11 (answer 0 (length (listing st)))) .reason) (provided b 1 (provided d 11 (answer 0 (length (listing st)))) .place)
+  listed-as false d e l = ListerGives.bad-state (fails-of e)
+  listed-as true true e l = ListerGives.done (holds-of e) (leb-true (length (listing st)) room l)
+  listed-as true false e l = ListerGives.no-room (holds-of e) (leb-false (length (listing st)) room l)
 
-  pub list-told : Lists st room (listAnswer st room .reason) (listAnswer st room .place)
+  pub list-told : ListerGives st room (listAnswer st room .reason) (listAnswer st room .place)
   unfolding listAnswer
   list-told = listed-as (wellFormed st) (leb (length (listing st)) room) refl refl
 
-  pub list-answer : {r p : ℕ} → Lists st room r p → listAnswer st room ≡ answer r p
+  pub list-answer : {r p : ℕ} → ListerGives st room r p → listAnswer st room ≡ answer r p
   unfolding listAnswer
-  list-answer (Lists.bad-state n) = rw (false-of (wellFormed st) n)
-  list-answer (Lists.no-room s l) = rw (true-of (wellFormed st) s, lt-leb (length (listing st)) room l)
-  list-answer (Lists.done s l) = rw (true-of (wellFormed st) s, le-leb (length (listing st)) room l)
+  list-answer (ListerGives.bad-state n) = rw (false-of (wellFormed st) n)
+  list-answer (ListerGives.no-room s l) = rw (true-of (wellFormed st) s, lt-leb (length (listing st)) room l)
+  list-answer (ListerGives.done s l) = rw (true-of (wellFormed st) s, le-leb (length (listing st)) room l)
 
-  pub list-range : {r p : ℕ} → Lists st room r p → r ≤ 11
-  list-range (Lists.bad-state n) = omega arith
-  list-range (Lists.no-room s l) = omega arith
-  list-range (Lists.done s l) = omega arith
+  pub list-range : {r p : ℕ} → ListerGives st room r p → r ≤ 11
+  list-range (ListerGives.bad-state n) = omega arith
+  list-range (ListerGives.no-room s l) = omega arith
+  list-range (ListerGives.done s l) = omega arith
 
 -- ---- "at most 2,568 bytes"
 
@@ -117,28 +119,69 @@ length-video : (o : VideoOffset) (v : ℕ) → length (lineVideo o v) ≡ 22
 unfolding hex
 length-video o v = refl
 
-length-lines : {Name : Type 0} (line : Name → ℕ → List ℕ) (n : ℕ) → ((x : Name) (v : ℕ) → length (line x v) ≡ n) → (st : List ℕ) (rs : List (Row Name))
-    → length (join (linesOf line st rs)) ≤ n * length rs
-unfolding linesOf
-length-lines line n h st [] = omega arith
-length-lines line n h st (r ∷ rs) =
-    omega (
-      arith,
-      marked-join (markAt st (r .cell)) (line (r .name) (valueAt st (r .cell))) (linesOf line st rs),
-      h (r .name) (valueAt st (r .cell)),
-      length-lines line n h st rs,
-    )
+-- a line for each marked cell: so many lines, of so many bytes
+lines-bytes : {Name : Type 0} (line : Name → ℕ → List ℕ) (n : ℕ) → ((x : Name) (v : ℕ) → length (line x v) ≡ n) → (st : List ℕ) (rs : List (Row Name))
+    → length (join (linesOf line st rs)) ≡ n * countRows (marked st) rs
+unfolding linesOf countRows
+lines-bytes line n h st [] = omega arith
+lines-bytes line n h st (r ∷ rs) =
+    so-join (marked st (r .cell)) (line (r .name) (valueAt st (r .cell))) (linesOf line st rs)
+    ∙ rw (h (r .name) (valueAt st (r .cell)), lines-bytes line n h st rs) (sym (mul-add n (one (marked st (r .cell))) (countRows (marked st) rs)))
 
-length-groups : (st : List ℕ) (Gs : List Group) → length (join (lines3D st Gs)) ≤ 26 * rowsIn Gs
-unfolding lines3D rowsIn
-length-groups st [] = omega arith
-length-groups st (G ∷ Gs) =
-    omega (
-      arith,
-      length-join-append (linesOf (line3D (G .type) (G .subType)) st (G .rows)) (lines3D st Gs),
-      length-lines (line3D (G .type) (G .subType)) 26 (length-3D (G .type) (G .subType)) st (G .rows),
-      length-groups st Gs,
-    )
+lines-count : {Name : Type 0} (line : Name → ℕ → List ℕ) (st : List ℕ) (rs : List (Row Name)) → length (linesOf line st rs) ≡ countRows (marked st) rs
+unfolding linesOf countRows
+lines-count line st [] = refl
+lines-count line st (r ∷ rs) = so-length (marked st (r .cell)) _ (linesOf line st rs) ∙ ap (λ (n : ℕ). one (marked st (r .cell)) + n) (lines-count line st rs)
+
+-- the bytes of a section's lines
+abbrev bytesIn : List ℕ → Section → ℕ
+bytesIn st (of3D G) = 26 * countRows (marked st) (G .rows)
+bytesIn st (ofVideo rs) = 22 * countRows (marked st) rs
+
+section-bytes : (st : List ℕ) (s : Section) → length (join (linesIn st s)) ≡ bytesIn st s
+section-bytes st (of3D G) = lines-bytes (line3D (G .type) (G .subType)) 26 (length-3D (G .type) (G .subType)) st (G .rows)
+section-bytes st (ofVideo rs) = lines-bytes lineVideo 22 length-video st rs
+
+-- and the most there can be
+abbrev roomIn : Section → ℕ
+roomIn (of3D G) = 26 * length (G .rows)
+roomIn (ofVideo rs) = 22 * length rs
+
+section-most : (st : List ℕ) (s : Section) → bytesIn st s ≤ roomIn s
+section-most st (of3D G) = omega (arith, rows-few (marked st) (G .rows))
+section-most st (ofVideo rs) = omega (arith, rows-few (marked st) rs)
+
+roomAmong : List Section → ℕ
+roomAmong [] = 0
+roomAmong (s ∷ ss) = roomIn s + roomAmong ss
+
+lines-most : (st : List ℕ) (ss : List Section) → length (join (linesAmong st ss)) ≤ roomAmong ss
+unfolding linesAmong roomAmong
+lines-most st [] = omega arith
+lines-most st (s ∷ ss) =
+    omega (arith, length-join-append (linesIn st s) (linesAmong st ss), section-bytes st s, section-most st s, lines-most st ss)
+
+-- ten bytes at most for the first line
+all-room : 10 + roomAmong sections ≡ mostListed
+unfolding roomAmong sections targetGroup stage sample overlay scaler from
+all-room = refl
+
+-- as many lines as cells are marked
+section-count : (i : ℕ) (st : List ℕ) (s : Section) → SectionAt i s → length (linesIn st s) ≡ countIn (marked st) i (rowsIn s)
+section-count i st (of3D G) a = lines-count (line3D (G .type) (G .subType)) st (G .rows) ∙ count-3D (marked st) i G a
+section-count i st (ofVideo rs) a = lines-count lineVideo st rs ∙ count-video (marked st) i rs a
+
+sections-count : (i : ℕ) (st : List ℕ) (ss : List Section) → Sections i ss → length (linesAmong st ss) ≡ countIn (marked st) i (rowsAmong ss)
+unfolding linesAmong rowsAmong countIn
+sections-count i st [] a = refl
+sections-count i st (s ∷ ss) a =
+    length-append (linesIn st s) (linesAmong st ss)
+    ∙ ap₂ (λ (x y : ℕ). x + y) (section-count i st s (a .0)) (sections-count (i + rowsIn s) st ss (a .1))
+    ∙ count-add (marked st) i (rowsIn s) (rowsAmong ss)
+
+pub lines-are-marked : (st : List ℕ) → length (cellLines st) ≡ markedCells st
+unfolding cellLines
+lines-are-marked st = sections-count 0 st sections table ∙ ap (countIn (marked st) 0) all-rows
 
 decimal-cases : (b c : Bool) (x y z : List ℕ) → length x ≤ 3 → length y ≤ 3 → length z ≤ 3 → length (cond b x (cond c y z)) ≤ 3
 decimal-cases true c x y z p q r = p
@@ -149,16 +192,13 @@ length-decimal : (n : ℕ) → length (decimal n) ≤ 3
 unfolding decimal
 length-decimal n = decimal-cases (ltb n 10) (ltb n 100) _ _ _ (omega arith) (omega arith) (omega arith)
 
-pub at-most-2568 : (st : List ℕ) → length (listing st) ≤ 2568
+pub listing-at-most : (st : List ℕ) → length (listing st) ≤ mostListed
 unfolding listing cellLines
-at-most-2568 st =
+listing-at-most st =
     omega (
       arith,
       length-append (decimal (length (cellLines st))) (ascii "\n" ++ join (cellLines st)),
       length-decimal (length (cellLines st)),
-      length-join-append (lines3D st groups) (linesOf lineVideo st videoRows),
-      length-groups st groups,
-      length-lines lineVideo 22 length-video st videoRows,
-      rows-84,
-      rows-17,
+      lines-most st sections,
+      all-room,
     )

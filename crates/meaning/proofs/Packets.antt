@@ -10,14 +10,14 @@ use borrow.Author.Tests.{ne-eqb}
 use lib.Dec.{T, leb, eqb, lit<}
 use lib.ListN.{length}
 use mir.Facts.{and-yes, yes-and, leb-yes, yes-leb, eqb-yes}
-use Rattle.laws.specs.Lists.{All}
+use Rattle.laws.specs.Lists.{All, from}
 use Rattle.laws.specs.Tests.{within}
 use Rattle.laws.proofs.Tests.{within-iff}
 use Rattle.meaning.specs.declared.VideoOffset.{VideoOffset}
 use Rattle.meaning.specs.declared.Kind.{Kind}
 use Rattle.meaning.specs.declared.Kind.the-variants.{Setting, Parameter, Video}
 use Rattle.meaning.specs.Words.{count, offset, videoOffset, following, data24}
-use Rattle.meaning.specs.Registers.{isFound, find, findVideo, scaler, videoRows}
+use Rattle.meaning.specs.Registers.{isFound, find, findOffset, findVideo, sections, overlay, scaler}
 use Rattle.meaning.specs.Grants.{Terms}
 use Rattle.meaning.specs.Batch.{offset3D, most3D, allowed, named, ParameterStands, Run, PacketVideo, Packet, packet3D, packetVideo}
 use Rattle.meaning.specs.Positions.{kindOf, after}
@@ -80,7 +80,7 @@ run-first g h (v ∷ vs) c = stands-found g (findVideo (videoOffset h)) v (c .ru
 
 -- the 3D packets' offset is no video register
 pub never-both : (o : ℕ) → T (isFound (findVideo (record { 0 = o }))) → eqb o offset3D ≡ false
-unfolding findVideo find videoRows scaler
+unfolding findVideo findOffset find sections overlay scaler from
 never-both o t = ne-eqb o offset3D (λ e. subst (λ (x : ℕ). T (isFound (findVideo (record { 0 = x })))) e t)
 
 pub not-3D : (g : Terms) (h : ℕ) (vs : List ℕ) → PacketVideo g h vs → eqb (offset h) offset3D ≡ false

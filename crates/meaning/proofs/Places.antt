@@ -52,7 +52,7 @@ module _ (g : Terms) where
 
 pub record Sample (g : Terms) (kind : Kind) : Type 0 where
   pub word : ℕ
-  pub fits : Word word
+  pub small : Word word
   pub taken : wordReason g kind word ≡ 0
 
 -- where each position has such a word
@@ -80,7 +80,7 @@ module _ (g : Terms) (S : Samples g) where
   complete kind (suc k) h =
       let s = sample-of kind k h in
       let r = complete (after kind (s .word)) k (good-word g kind k (s .word) h (s .taken)) in
-      record { more = s .word ∷ r .more; words = (s .fits, r .words); left = left-cons g kind (suc k) (s .word) (r .more) .1 (s .taken, r .left) }
+      record { more = s .word ∷ r .more; words = (s .small, r .words); left = left-cons g kind (suc k) (s .word) (r .more) .1 (s .taken, r .left) }
 
 -- ---- what an answer tells
 

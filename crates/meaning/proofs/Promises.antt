@@ -20,22 +20,22 @@ use Rattle.meaning.specs.Answers.{answer, numberOf}
 use Rattle.meaning.specs.Reader.{readAnswer, readLeaves}
 use Rattle.meaning.specs.Writer.{written, writeAnswer, writeLeaves}
 use Rattle.meaning.specs.Lister.{listing, listAnswer, listLeaves}
-use Rattle.meaning.specs.Calls.{wordBufferFine, bufferFine, readCall, readCallLeaves, writeCall, writeCallLeaves, listCall, listCallLeaves}
-use Rattle.meaning.specs.Reasons.{CellFine, Reads, Writes, Lists}
-use Rattle.meaning.specs.Memory.{Inside, Apart, Safe, Stores}
+use Rattle.meaning.specs.Exported.{wordBufferFine, bufferFine, exportedRead, exportedReadLeaves, exportedWrite, exportedWriteLeaves, exportedList, exportedListLeaves}
+use Rattle.meaning.specs.Reasons.{CellFine, ReaderGives, WriterGives, ListerGives}
+use Rattle.meaning.specs.Fitter.{Inside, Apart, Safe, Stores}
 use Rattle.meaning.proofs.Cuts.{cut-one-way}
 use Rattle.meaning.proofs.Reading.{batch-permitted, batch-length}
 use Rattle.meaning.proofs.Places.{refusal-longest}
 use Rattle.meaning.proofs.Samples.{samples-of}
 use Rattle.meaning.proofs.Writes.{writes-of-cut}
-use Rattle.meaning.proofs.Writing.{at-most-184}
+use Rattle.meaning.proofs.Writing.{written-at-most}
 use Rattle.meaning.proofs.States.{formed-iff, empty-well-formed, untouched, last-holds}
 use Rattle.meaning.proofs.Round.{reached-sound, sound-takes, packets-low, accepted-formed, leaves-formed}
 use Rattle.meaning.proofs.Exactly.{read-told, read-answer, read-batch, accepted-cut}
-use Rattle.meaning.proofs.Memory.{packets-inside, packets-safe}
-use Rattle.meaning.proofs.Outputs.{write-told, write-answer, list-told, list-answer, at-most-2568}
+use Rattle.meaning.proofs.Fitter.{packets-inside, packets-safe}
+use Rattle.meaning.proofs.Outputs.{write-told, write-answer, list-told, list-answer, listing-at-most}
 use Rattle.meaning.proofs.Bytes.{words-bytes, bytes-words, provided-first, number-tells, settle-refused, settle-done}
-use Rattle.meaning.proofs.Calls.{Byte, read-below-13, write-below-13, list-below-13, read-call-range, write-call-range, list-call-range, read-call, read-call-leaves, write-call, write-call-leaves, list-call, list-call-leaves}
+use Rattle.meaning.proofs.Exported.{Byte, read-below-13, write-below-13, list-below-13, read-call-range, write-call-range, list-call-range, read-call, read-call-leaves, write-call, write-call-leaves, list-call, list-call-leaves}
 
 -- ==== Demand 3
 
@@ -69,18 +69,18 @@ exactly : (a : Answer) (R : ℕ → ℕ → Type 0) → R (a .reason) (a .place)
 exactly a R told back r p = (λ e. subst (λ (x : Answer). R (x .reason) (x .place)) e told, back r p)
 
 pub record EachReason (a b c : List ℕ) (room : ℕ) : Type 0 where
-  pub reader : (r p : ℕ) → (readAnswer a b c ≡ answer r p) ↔ Reads a b c r p
-  pub writer : (r p : ℕ) → (writeAnswer a b room ≡ answer r p) ↔ Writes a b room r p
-  pub lister : (r p : ℕ) → (listAnswer a room ≡ answer r p) ↔ Lists a room r p
+  pub reader : (r p : ℕ) → (readAnswer a b c ≡ answer r p) ↔ ReaderGives a b c r p
+  pub writer : (r p : ℕ) → (writeAnswer a b room ≡ answer r p) ↔ WriterGives a b room r p
+  pub lister : (r p : ℕ) → (listAnswer a room ≡ answer r p) ↔ ListerGives a room r p
 
 -- the reader's reasons 0 to 10, the writer's 0, 1, 2, 11 and 12, the lister's 0, 1 and 11: a statement for each is a line of
 -- specs/Reasons, "in number order", "words from the front"
 pub each-reason-exactly : (a b c : List ℕ) (room : ℕ) → EachReason a b c room
 each-reason-exactly a b c room =
     record {
-      reader = exactly (readAnswer a b c) (Reads a b c) (read-told a b c) (λ r p. read-answer a b c);
-      writer = exactly (writeAnswer a b room) (Writes a b room) (write-told a b room) (λ r p. write-answer a b room);
-      lister = exactly (listAnswer a room) (Lists a room) (list-told a room) (λ r p. list-answer a room);
+      reader = exactly (readAnswer a b c) (ReaderGives a b c) (read-told a b c) (λ r p. read-answer a b c);
+      writer = exactly (writeAnswer a b room) (WriterGives a b room) (write-told a b room) (λ r p. write-answer a b room);
+      lister = exactly (listAnswer a room) (ListerGives a room) (list-told a room) (λ r p. list-answer a room);
     }
 
 -- ==== Demand 2
@@ -121,21 +121,21 @@ pub record Unchanged (a b c : List ℕ) : Type 0 where
   pub read : readAnswer a b c .reason ≢ 0 → readLeaves a b c ≡ c
   pub write : writeAnswer a b (length c) .reason ≢ 0 → writeLeaves a b c ≡ c
   pub list : listAnswer a (length c) .reason ≢ 0 → listLeaves a c ≡ c
-  pub read-call : readCall a b c .reason ≢ 0 → readCallLeaves a b c ≡ c
-  pub write-call : writeCall a b c .reason ≢ 0 → writeCallLeaves a b c ≡ c
-  pub list-call : listCall a c .reason ≢ 0 → listCallLeaves a c ≡ c
+  pub read-call : exportedRead a b c .reason ≢ 0 → exportedReadLeaves a b c ≡ c
+  pub write-call : exportedWrite a b c .reason ≢ 0 → exportedWriteLeaves a b c ≡ c
+  pub list-call : exportedList a c .reason ≢ 0 → exportedListLeaves a c ≡ c
 
 -- "state and output buffers stay as they were": any reason but 0, on words and on bytes
 pub refusal-changes-nothing : (a b c : List ℕ) → Unchanged a b c
-unfolding readLeaves writeLeaves listLeaves readCallLeaves writeCallLeaves listCallLeaves
+unfolding readLeaves writeLeaves listLeaves exportedReadLeaves exportedWriteLeaves exportedListLeaves
 refusal-changes-nothing a b c =
     record {
       read = settle-refused (readAnswer a b c) _ c;
       write = settle-refused (writeAnswer a b (length c)) _ c;
       list = settle-refused (listAnswer a (length c)) _ c;
-      read-call = settle-refused (readCall a b c) _ c;
-      write-call = settle-refused (writeCall a b c) _ c;
-      list-call = settle-refused (listCall a c) _ c;
+      read-call = settle-refused (exportedRead a b c) _ c;
+      write-call = settle-refused (exportedWrite a b c) _ c;
+      list-call = settle-refused (exportedList a c) _ c;
     }
 
 -- ---- the writer
@@ -163,7 +163,7 @@ unfolding readLeaves writeLeaves
 writer-reaches st grants out l r room =
     let parts = reached-exactly (termsOf grants) st .0 r in
     let takes = sound-takes (termsOf grants) st (reached-sound (termsOf grants) st r) in
-    let wrote = write-answer st grants (length out) (Writes.done (parts .0) l (parts .1) room) in
+    let wrote = write-answer st grants (length out) (WriterGives.done (parts .0) l (parts .1) room) in
     let read = accepted-exactly (written st) grants empty empty-well-formed l .1 (takes .cut) in
     record {
       answered = wrote;
@@ -176,7 +176,7 @@ writer-reaches st grants out l r room =
 
 -- "It needs at most 184 words"
 pub writer-needs-at-most-184 : (st : List ℕ) → length (written st) ≤ 184
-writer-needs-at-most-184 = at-most-184
+writer-needs-at-most-184 = written-at-most
 
 -- "and refuses all others": with 1, or with 12 at the lowest marked cell that holds what it may not
 pub record Declines (st grants : List ℕ) (room c : ℕ) : Type 0 where
@@ -189,13 +189,13 @@ pub writer-refuses-the-rest : (st grants : List ℕ) (room : ℕ) → T (grantsF
     → ((¬ T (wellFormed st)) × (writeAnswer st grants room ≡ answer 1 0)) ⊎ ((c : ℕ) × Declines st grants room c)
 writer-refuses-the-rest st grants room l n = rest (write-told st grants room) refl
   where
-    rest : {r p : ℕ} → Writes st grants room r p → writeAnswer st grants room ≡ answer r p
+    rest : {r p : ℕ} → WriterGives st grants room r p → writeAnswer st grants room ≡ answer r p
         → ((¬ T (wellFormed st)) × (writeAnswer st grants room ≡ answer 1 0)) ⊎ ((c : ℕ) × Declines st grants room c)
-    rest (Writes.bad-state s) e = inl (s, e)
-    rest (Writes.bad-grants s f) e = absurd (f l)
-    rest (Writes.not-writable {c} s f low bad before) e = inr (c, record { answered = e; low = low; bad = bad; lowest = before })
-    rest (Writes.no-room s f fine less) e = absurd (n (reached-exactly (termsOf grants) st .1 (s, fine)))
-    rest (Writes.done s f fine enough) e = absurd (n (reached-exactly (termsOf grants) st .1 (s, fine)))
+    rest (WriterGives.bad-state s) e = inl (s, e)
+    rest (WriterGives.bad-grants s f) e = absurd (f l)
+    rest (WriterGives.not-writable {c} s f low bad before) e = inr (c, record { answered = e; low = low; bad = bad; lowest = before })
+    rest (WriterGives.no-room s f fine less) e = absurd (n (reached-exactly (termsOf grants) st .1 (s, fine)))
+    rest (WriterGives.done s f fine enough) e = absurd (n (reached-exactly (termsOf grants) st .1 (s, fine)))
 
 -- "11: output shorter than needed", of a state that is reached: exactly if the room is less
 pub writer-needs-its-room : (st grants : List ℕ) (room : ℕ) → T (grantsFine grants) → Reached (termsOf grants) st
@@ -203,15 +203,15 @@ pub writer-needs-its-room : (st grants : List ℕ) (room : ℕ) → T (grantsFin
 writer-needs-its-room st grants room l r =
     let parts = reached-exactly (termsOf grants) st .0 r in (
       λ e. less (each-reason-exactly st grants [] room .writer 11 0 .0 e) refl,
-      λ k. write-answer st grants room (Writes.no-room (parts .0) l (parts .1) k),
+      λ k. write-answer st grants room (WriterGives.no-room (parts .0) l (parts .1) k),
     )
   where
-    less : {x y : ℕ} → Writes st grants room x y → x ≡ 11 → room < length (written st)
-    less (Writes.bad-state s) e = absurd (omega arith)
-    less (Writes.bad-grants s f) e = absurd (omega arith)
-    less (Writes.not-writable s f low bad before) e = absurd (omega arith)
-    less (Writes.no-room s f fine k) e = k
-    less (Writes.done s f fine k) e = absurd (omega arith)
+    less : {x y : ℕ} → WriterGives st grants room x y → x ≡ 11 → room < length (written st)
+    less (WriterGives.bad-state s) e = absurd (omega arith)
+    less (WriterGives.bad-grants s f) e = absurd (omega arith)
+    less (WriterGives.not-writable s f low bad before) e = absurd (omega arith)
+    less (WriterGives.no-room s f fine k) e = k
+    less (WriterGives.done s f fine k) e = absurd (omega arith)
 
 -- ---- the lister
 
@@ -223,12 +223,12 @@ pub record Listed (st out : List ℕ) : Type 0 where
 pub listing-is-exact : (st out : List ℕ) → T (wellFormed st) → length (listing st) ≤ length out → Listed st out
 unfolding listLeaves
 listing-is-exact st out s room =
-    let e = list-answer st (length out) (Lists.done s room) in
+    let e = list-answer st (length out) (ListerGives.done s room) in
     record { answered = e; left = settle-done (listAnswer st (length out)) _ out (rw e) }
 
 -- "at most 2,568 bytes"
 pub listing-at-most-2568 : (st : List ℕ) → length (listing st) ≤ 2568
-listing-at-most-2568 = at-most-2568
+listing-at-most-2568 = listing-at-most
 
 -- ==== The fitter's question
 
@@ -263,13 +263,13 @@ abbrev Two : List ℕ → List ℕ → Type 0
 Two a c = T (wordBufferFine a && bufferFine c)
 
 pub record BadBuffer (a b c : List ℕ) : Type 0 where
-  pub read : (readCall a b c .reason ≡ 13) ↔ (¬ Three a b c)
-  pub write : (writeCall a b c .reason ≡ 13) ↔ (¬ Three a b c)
-  pub list : (listCall a c .reason ≡ 13) ↔ (¬ Two a c)
+  pub read : (exportedRead a b c .reason ≡ 13) ↔ (¬ Three a b c)
+  pub write : (exportedWrite a b c .reason ≡ 13) ↔ (¬ Three a b c)
+  pub list : (exportedList a c .reason ≡ 13) ↔ (¬ Two a c)
 
 -- "13: a buffer over 65,536 bytes, or a word buffer not a multiple of 4", before all others
 pub bad-buffer-exactly : (a b c : List ℕ) → BadBuffer a b c
-unfolding readCall writeCall listCall
+unfolding exportedRead exportedWrite exportedList
 bad-buffer-exactly a b c =
     record {
       read = provided-first (every wordBufferFine (a ∷ b ∷ c ∷ [])) 13 _ (read-below-13 (wordsOf a) (wordsOf b) (wordsOf c));
@@ -278,12 +278,12 @@ bad-buffer-exactly a b c =
     }
 
 pub record AsWords (a b c : List ℕ) : Type 0 where
-  pub read : Three a b c → readCall a b c ≡ readAnswer (wordsOf a) (wordsOf b) (wordsOf c)
-  pub read-left : Three a b c → All Byte a → All Byte c → wordsOf (readCallLeaves a b c) ≡ readLeaves (wordsOf a) (wordsOf b) (wordsOf c)
-  pub write : Three a b c → writeCall a b c ≡ writeAnswer (wordsOf a) (wordsOf b) (length (wordsOf c))
-  pub write-left : Three a b c → wordsOf (writeCallLeaves a b c) ≡ writeLeaves (wordsOf a) (wordsOf b) (wordsOf c)
-  pub list : Two a c → listCall a c ≡ listAnswer (wordsOf a) (length c)
-  pub list-left : Two a c → listCallLeaves a c ≡ listLeaves (wordsOf a) c
+  pub read : Three a b c → exportedRead a b c ≡ readAnswer (wordsOf a) (wordsOf b) (wordsOf c)
+  pub read-left : Three a b c → All Byte a → All Byte c → wordsOf (exportedReadLeaves a b c) ≡ readLeaves (wordsOf a) (wordsOf b) (wordsOf c)
+  pub write : Three a b c → exportedWrite a b c ≡ writeAnswer (wordsOf a) (wordsOf b) (length (wordsOf c))
+  pub write-left : Three a b c → wordsOf (exportedWriteLeaves a b c) ≡ writeLeaves (wordsOf a) (wordsOf b) (wordsOf c)
+  pub list : Two a c → exportedList a c ≡ listAnswer (wordsOf a) (length c)
+  pub list-left : Two a c → exportedListLeaves a c ≡ listLeaves (wordsOf a) c
 
 -- what 13 lets through is answered as the words are, and what is left is, as words, what the calls on words leave
 pub calls-are-the-words : (a b c : List ℕ) → AsWords a b c
@@ -308,9 +308,9 @@ abbrev Tells : Answer → Type 0
 Tells a = (numberOf a % 256 ≡ a .reason) × (numberOf a / 256 ≡ a .place)
 
 -- "place × 256 + reason": the number tells both
-pub number-tells-both : (a b c : List ℕ) → Tells (readCall a b c) × Tells (writeCall a b c) × Tells (listCall a c)
+pub number-tells-both : (a b c : List ℕ) → Tells (exportedRead a b c) × Tells (exportedWrite a b c) × Tells (exportedList a c)
 number-tells-both a b c = (
-  number-tells (readCall a b c) (read-call-range a b c),
-  number-tells (writeCall a b c) (write-call-range a b c),
-  number-tells (listCall a c) (list-call-range a c),
+  number-tells (exportedRead a b c) (read-call-range a b c),
+  number-tells (exportedWrite a b c) (write-call-range a b c),
+  number-tells (exportedList a c) (list-call-range a c),
 )

@@ -24,7 +24,7 @@ use Rattle.meaning.specs.Batch.{Packet, Cut}
 use Rattle.meaning.specs.State.{valueAt, markAt, empty, Write, applyAll, allWrites, Takes, Reached}
 use Rattle.meaning.specs.Positions.{writesOf}
 use Rattle.meaning.specs.Reader.{valueReason, readAnswer, readLeaves}
-use Rattle.meaning.specs.Writer.{packetsOf, written, writable, lowestBad}
+use Rattle.meaning.specs.Writer.{wordsFor, packetsOf, written, writable, lowestBad}
 use Rattle.meaning.specs.Reasons.{CellFine}
 use Rattle.meaning.proofs.Verdicts.{fits-fine}
 use Rattle.meaning.proofs.Stored.{stored}
@@ -49,7 +49,7 @@ reached-sound g st r =
     rw (t .leaves) at (sound-writes g empty (allWrites ps) (packets-fine g ps (t .cut .permitted) w) (empty-sound g))
 
 pub sound-takes : (g : Terms) (st : List ℕ) → Sound g st → Takes g (written st) st
-unfolding written
+unfolding written wordsFor packetsOf
 sound-takes g st s =
     record {
       words = written-words g st (s .fine);

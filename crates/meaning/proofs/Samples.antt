@@ -3,7 +3,8 @@
 use mathlib.Core.Path.{_≡_, refl, sym, ap, _∙_, subst, subst₂}
 use mathlib.Core.Logic.{inl, inr}
 use mathlib.Core.Bool.{Bool, _&&_, cond}
-use Prim.Native.Nat.{ℕ, _+_, _*_, _/_, _%_, _<_, _^_}
+use mathlib.Core.List.{map}
+use Prim.Native.Nat.{ℕ, zero, suc, _+_, _*_, _/_, _%_, _<_, _^_}
 use native.Mathlib.Omega.{arith}
 use lib.Dec.{T, leb, eqb, ltb, lit<}
 use lib.Bits.{bitAnd, and-block, and-comm, and-shifted, and-zero-l}
@@ -18,19 +19,19 @@ use Rattle.meaning.specs.declared.Found.{Found}
 use Rattle.meaning.specs.declared.Found.the-variants.{At, Missing}
 use Rattle.meaning.specs.declared.Kind.the-variants.{Setting, Parameter, Video}
 use Rattle.meaning.specs.Words.{Word, bits, paraAdr, paraOS, paraType, paraSubType, subAddress, data24}
-use Rattle.meaning.specs.Registers.{any, scaled, noAddress, alphaSelect, memoryLocation, alphaConstants, levels, Register, Row, targetGroup, stage, sample, groups, scaler, videoRows, find, findAmong, find3D, findVideo, isFound, registerAmong, registerAt}
+use Rattle.meaning.specs.Registers.{any, scaled, noAddress, alphaSelect, memoryLocation, alphaConstants, levels, Register, Row, Group, Section, of3D, ofVideo, stageSection, sampleSection, targetGroup, stage, sample, overlay, scaler, sections3D, sectionsVideo, sections, find, findAmong, find3D, findVideo, isFound, registerAmong, registerIn, registerAt}
 use Rattle.meaning.specs.Grants.{Terms, granted}
 use Rattle.meaning.specs.Batch.{Fits, typeAllowed, allowed, Holdable}
 use Rattle.meaning.specs.Reader.{unless, valueReason, foundReason, wordReason}
 use Rattle.meaning.proofs.Verdicts.{fits-fine}
-use Rattle.meaning.proofs.Table.{Of, found-of}
+use Rattle.meaning.proofs.Table.{Of, OwnIn, RowsVideo, own-registers, found-video-of}
 use Rattle.meaning.proofs.Places.{Sample, Samples}
 
 -- ---- a setting, and a parameter under each: one test over the types and sub-types
 
 a-setting : (g : Terms) → Sample g Setting
 unfolding wordReason allowed paraAdr paraOS paraType paraSubType typeAllowed unless
-a-setting g = record { word = 0x10000; fits = lit< tt; taken = refl }
+a-setting g = record { word = 0x10000; small = lit< tt; taken = refl }
 
 -- a parameter that may stand under a type and sub-type: a register without an address, and 0
 candidate : ℕ → ℕ → ℕ
@@ -42,7 +43,7 @@ fine g t u =
     ltb p (2 ^ 32) && eqb (foundReason g 6 (find3D t u (subAddress p)) (data24 p)) 0
 
 tested : (g : Terms) → T (fine g 0x01 0x00) × T (every (fine g 0x02) (from 0x00 16)) × T (every (fine g 0x02) (from 0x20 16))
-unfolding fine candidate subAddress data24 find3D findAmong find groups targetGroup stage sample registerAt registerAmong scaler videoRows valueReason unless alphaConstants levels every from
+unfolding fine candidate subAddress data24 find3D findAmong find sections targetGroup stage sample registerAt registerIn registerAmong overlay scaler valueReason unless alphaConstants levels every from
 tested g = (tt, tt, tt)
 
 fine-allowed : (g : Terms) (t u : ℕ) → T (typeAllowed t u) → T (fine g t u)
@@ -68,7 +69,7 @@ a-parameter g s a =
     let u = paraSubType s in
     let b = and-yes (eqb (paraOS s) 0) _ (and-yes (eqb (paraAdr s) 0) _ a .1) .1 in
     let c = and-yes (ltb (candidate t u) (2 ^ 32)) _ (fine-allowed g t u b) in
-    record { word = candidate t u; fits = ltb-yes (c .0); taken = eqb-yes (c .1) }
+    record { word = candidate t u; small = ltb-yes (c .0); taken = eqb-yes (c .1) }
 
 -- ---- a word for each video register
 
@@ -93,7 +94,7 @@ held a m l = omega arith
 an-address : (g : Terms) (role m : ℕ) → T (eqb (bits 28 4 m) 0) → Holdable g role → Holds g (record { width = 32; clear = m; values = memoryLocation; holds = scaled role })
 unfolding memoryLocation
 an-address g role m z h =
-    let a : ℕ = h .held in
+    let a : ℕ = h .address in
     let low : bits 1 0 a ≡ 0 = omega (arith, h .multiple) in
     record {
       word = a;
@@ -122,27 +123,28 @@ scaler-rows g c o role h = (
   ),
 )
 
-video-rows : (g : Terms) → Holdable g 2 → Holdable g 3 → All (λ r. Holds g (r .register)) videoRows
-unfolding videoRows alphaSelect
-video-rows g h2 h3 = (
-  nothing-held g _ any tt,
-  (
-    nothing-held g _ any tt,
-    (
-      nothing-held g _ alphaSelect tt,
-      all-append (λ (r : Row VideoOffset). Holds g (r .register)) (scaler 87 0x2000 2) (scaler 94 0x3000 3) (scaler-rows g 87 0x2000 2 h2)
-          (scaler-rows g 94 0x3000 3 h3),
-    ),
-  ),
-)
+-- every row of the table's video sections holds something
+abbrev Rows-hold : Terms → Section → Type 0
+Rows-hold g = RowsVideo (λ r. Holds g (r .register))
+
+of-groups : (g : Terms) (f : ℕ → Group) (i n : ℕ) → All (Rows-hold g) (map (λ k. of3D (f k)) (from i n))
+unfolding from
+of-groups g f i zero = tt
+of-groups g f i (suc n) = (tt, of-groups g f (suc i) n)
+
+video-rows : (g : Terms) → Holdable g 2 → Holdable g 3 → All (Rows-hold g) sections
+unfolding sections overlay alphaSelect
+video-rows g h2 h3 =
+    all-append (Rows-hold g) sections3D sectionsVideo
+    (tt, all-append (Rows-hold g) (map stageSection (from 0 16)) (map sampleSection (from 0 16)) (of-groups g stage 0 16) (of-groups g sample 0 16)) (
+      (nothing-held g _ any tt, (nothing-held g _ any tt, (nothing-held g _ alphaSelect tt, tt))),
+      (scaler-rows g 87 0x2000 2 h2, (scaler-rows g 94 0x3000 3 h3, tt)),
+    )
 
 -- the register of a video row's cell is the row's
-video-registers : All (λ (r : Row VideoOffset). r .register ≡ registerAt (r .cell)) videoRows
-unfolding videoRows scaler registerAt registerAmong groups targetGroup stage sample from
-video-registers = (
-  refl,
-  (refl, (refl, (refl, (refl, (refl, (refl, (refl, (refl, (refl, (refl, (refl, (refl, (refl, (refl, (refl, (refl, tt)))))))))))))))),
-)
+held-at : (g : Terms) (s : Section) → OwnIn registerAt s → Rows-hold g s → RowsVideo (λ r. Holds g (registerAt (r .cell))) s
+held-at g (of3D G) o h = tt
+held-at g (ofVideo rs) o h = all-both _ _ _ (λ r e x. subst (Holds g) (sym e) x) rs o h
 
 word-of : (g : Terms) (f : Found) → T (isFound f) → Of (λ c. Holds g (registerAt c)) f → (w : ℕ) × Word w × (foundReason g 4 f w ≡ 0)
 word-of g (At c) t h = (h .word, h .small, fits-fine g (registerAt c) (h .word) .0 (h .fits))
@@ -151,10 +153,9 @@ word-of g Missing t h = absurd t
 a-video-word : (g : Terms) → Holdable g 2 → Holdable g 3 → (o : VideoOffset) → T (isFound (findVideo o)) → Sample g (Video o)
 unfolding wordReason findVideo
 a-video-word g h2 h3 o t =
-    let rows = all-both (λ (r : Row VideoOffset). Holds g (r .register)) (λ (r : Row VideoOffset). r .register ≡ registerAt (r .cell))
-    (λ (r : Row VideoOffset). Holds g (registerAt (r .cell))) (λ r h e. subst (Holds g) e h) videoRows (video-rows g h2 h3) video-registers in
-    let w = word-of g (findVideo o) t (found-of (λ (c : Cell). Holds g (registerAt c)) _ videoRows rows) in
-    record { word = w .0; fits = w .1; taken = w .2 }
+    let rows = all-both _ _ _ (held-at g) sections own-registers (video-rows g h2 h3) in
+    let w = word-of g (findVideo o) t (found-video-of (λ (c : Cell). Holds g (registerAt c)) o sections rows) in
+    record { word = w .0; small = w .1; taken = w .2 }
 
 pub samples-of : (g : Terms) → Holdable g 2 → Holdable g 3 → Samples g
 samples-of g h2 h3 = record { a-setting = a-setting g; a-parameter = a-parameter g; a-video-word = a-video-word g h2 h3 }

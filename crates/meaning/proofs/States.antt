@@ -16,10 +16,10 @@ use Rattle.laws.proofs.Tests.{implies-iff}
 use Rattle.meaning.specs.declared.Cell.{Cell}
 use Rattle.meaning.specs.Registers.{cells, cell}
 use Rattle.meaning.specs.Grants.{Terms}
-use Rattle.meaning.specs.State.{stateWords, valueAt, markAt, cellFormed, wellFormed, empty, Write, apply, applyAll}
-use Rattle.meaning.specs.Writer.{ifMarked}
+use Rattle.meaning.specs.State.{stateWords, valueAt, markAt, cellFormed, wellFormed, empty, Write, apply, applyAll, isMark, marked}
+use Rattle.meaning.specs.Writer.{ifSo}
 use Rattle.meaning.specs.Reasons.{MayHold}
-use Rattle.meaning.proofs.Writing.{markedFrom, AllFine}
+use Rattle.meaning.proofs.Writing.{chosenFrom, AllFine}
 
 -- ---- well-formed, as facts
 
@@ -108,16 +108,16 @@ agree-write st cur i l z a =
 -- cell i by its mark m, and then the others
 agree-one : (st cur : List ℕ) (i : ℕ) (ws : List Write) (m : ℕ) → Formed st → i < cells → markAt st (cell i) ≡ m → Agree st cur i
     → ((now : List ℕ) → Agree st now (suc i) → Agree st (applyAll now ws) cells)
-    → Agree st (applyAll cur (ifMarked m (record { cell = cell i; value = valueAt st (cell i) }) ws)) cells
+    → Agree st (applyAll cur (ifSo (isMark m) (record { cell = cell i; value = valueAt st (cell i) }) ws)) cells
 unfolding applyAll apply
 agree-one st cur i ws zero f l e a more = more cur (agree-skip st cur i f l e a)
 agree-one st cur i ws (suc m) f l e a more = more _ (agree-write st cur i l (omega (arith, f .mark i l)) a)
 
-agree-all : (st cur : List ℕ) (i n : ℕ) → Formed st → i + n ≡ cells → Agree st cur i → Agree st (applyAll cur (markedFrom st i n)) cells
-unfolding applyAll markedFrom
+agree-all : (st cur : List ℕ) (i n : ℕ) → Formed st → i + n ≡ cells → Agree st cur i → Agree st (applyAll cur (chosenFrom (marked st) st i n)) cells
+unfolding applyAll chosenFrom
 agree-all st cur i zero f e a = subst (Agree st cur) (omega arith) a
 agree-all st cur i (suc n) f e a =
-    agree-one st cur i (markedFrom st (suc i) n) (markAt st (cell i)) f (omega arith) refl a (λ now b. agree-all st now (suc i) n f (omega arith) b)
+    agree-one st cur i (chosenFrom (marked st) st (suc i) n) (markAt st (cell i)) f (omega arith) refl a (λ now b. agree-all st now (suc i) n f (omega arith) b)
 
 agree-end : (st cur : List ℕ) → Formed st → Agree st cur cells → cur ≡ st
 agree-end st cur f a =
@@ -147,7 +147,7 @@ empty-agree st =
     }
 
 -- the writes of the marked cells rebuild the state
-pub rebuilt : (st : List ℕ) → Formed st → applyAll empty (markedFrom st 0 cells) ≡ st
+pub rebuilt : (st : List ℕ) → Formed st → applyAll empty (chosenFrom (marked st) st 0 cells) ≡ st
 rebuilt st f = agree-end st _ f (agree-all st empty 0 cells f refl (empty-agree st))
 
 -- ---- every reached state

@@ -1,11 +1,9 @@
 -- What permitted packets store: one law for any property of their writes.
 -- Assumes nothing.
 use mathlib.Core.Path.{_≡_}
-use mathlib.Core.Bool.{_&&_}
 use mathlib.Core.List.{List, [], _∷_}
 use Prim.Native.Nat.{ℕ, suc, _+_, _<_, _^_}
 use native.Mathlib.Omega.{arith}
-use lib.Dec.{eqb}
 use lib.ListN.{length}
 use Rattle.laws.specs.Lists.{All, join}
 use Rattle.laws.proofs.Lists.{all-append, all-split}
@@ -15,12 +13,12 @@ use Rattle.meaning.specs.declared.VideoOffset.{VideoOffset}
 use Rattle.meaning.specs.declared.Found.{Found}
 use Rattle.meaning.specs.declared.Found.the-variants.{At, Missing}
 use Rattle.meaning.specs.Words.{videoOffset, following, paraType, paraSubType, subAddress, data24}
-use Rattle.meaning.specs.Registers.{cells, Row, Group, groups, videoRows, find, findAmong, find3D, findVideo, registerAt}
+use Rattle.meaning.specs.Registers.{cells, Row, Section, of3D, ofVideo, sections, find3D, findVideo, registerAt}
 use Rattle.meaning.specs.Grants.{Terms}
 use Rattle.meaning.specs.Batch.{Fits, Stands, named, ParameterStands, Run, Packet, packet3D, packetVideo}
 use Rattle.meaning.specs.State.{Write, writeTo, writes3D, writesRun, packetWrites, allWrites}
 use Rattle.meaning.proofs.Packets.{not-3D}
-use Rattle.meaning.proofs.Table.{Of, pick-of, found-of, Row3D, RowVideo, Rows, Groups, table-3D, table-video, firstVideo}
+use Rattle.meaning.proofs.Table.{Of, found-3D-of, found-video-of, Row3D, RowVideo, Rows, Rows3D, RowsVideo, Sections, table}
 
 -- ---- where the cells lie
 
@@ -33,21 +31,24 @@ rows-all P Q h i (r ∷ rs) a = (h i r (a .0), rows-all P Q h (suc i) rs (a .1))
 abbrev pub Wide : ℕ → Cell → Type 0
 Wide n c = (c .0 < cells) × (registerAt c .width ≡ n)
 
-found-among : (t u : ℕ) (a : SubAddress) (i : ℕ) (Gs : List Group) → Groups i Gs → Of (Wide 24) (findAmong t u a Gs)
-unfolding findAmong
-found-among t u a i [] b = tt
-found-among t u a i (G ∷ Gs) b =
-    pick-of (Wide 24) (eqb t (G .type) && eqb u (G .subType)) (find _ (G .rows)) _
-    (found-of (Wide 24) _ (G .rows) (rows-all (Row3D (G .type) (G .subType)) (Wide 24) (λ j r x. rw (x .numbered) (x .high, x .width)) i (G .rows) (b .0 .rows)))
-    (found-among t u a (i + length (G .rows)) Gs (b .1))
+wide-3D : (i : ℕ) (ss : List Section) → Sections i ss → All (Rows3D (λ r. Wide 24 (r .cell))) ss
+wide-3D i [] b = tt
+wide-3D i (of3D G ∷ ss) b =
+    (rows-all (Row3D (G .type) (G .subType)) (Wide 24) (λ j r x. rw (x .numbered) (x .high, x .width)) i (G .rows) (b .0 .rows), wide-3D (i + length (G .rows)) ss (b .1))
+wide-3D i (ofVideo rs ∷ ss) b = (tt, wide-3D (i + length rs) ss (b .1))
+
+wide-video : (i : ℕ) (ss : List Section) → Sections i ss → All (RowsVideo (λ r. Wide 32 (r .cell))) ss
+wide-video i [] b = tt
+wide-video i (of3D G ∷ ss) b = (tt, wide-video (i + length (G .rows)) ss (b .1))
+wide-video i (ofVideo rs ∷ ss) b = (rows-all RowVideo (Wide 32) (λ j r x. rw (x .numbered) (x .high, x .width)) i rs (b .0), wide-video (i + length rs) ss (b .1))
 
 pub found-3D : (t u : ℕ) (a : SubAddress) → Of (Wide 24) (find3D t u a)
 unfolding find3D
-found-3D t u a = found-among t u a 0 groups table-3D
+found-3D t u a = found-3D-of (Wide 24) t u a sections (wide-3D 0 sections table)
 
 pub found-video : (o : VideoOffset) → Of (Wide 32) (findVideo o)
 unfolding findVideo
-found-video o = found-of (Wide 32) _ videoRows (rows-all RowVideo (Wide 32) (λ j r x. rw (x .numbered) (x .high, x .width)) firstVideo videoRows table-video)
+found-video o = found-video-of (Wide 32) o sections (wide-video 0 sections table)
 
 -- ---- the law
 

@@ -1,67 +1,85 @@
--- What the writer emits is permitted, writes the marked cells in order, and is at most 184 words.
+-- What is written for chosen cells of a state is permitted, writes those cells in order, and is as many words as they need, at most 184;
+-- the writer's words are those for all marked cells.
 -- Assumes nothing.
 use mathlib.Core.Path.{_≡_, refl, sym, ap, ap₂, _∙_}
+use mathlib.Core.Bool.{Bool, true, false}
 use mathlib.Core.List.{List, [], _∷_, _++_, append-assoc}
 use Prim.Native.Nat.{ℕ, zero, suc, _+_, _*_, _≤_, _<_, _^_}
 use native.Mathlib.Omega.{arith}
-use native.Mathlib.Nat.{zero-lt-suc, zero-add, suc-add, add-suc, add-zero}
+use native.Mathlib.Nat.{zero-lt-suc, zero-add, suc-add, add-suc, add-zero, mul-le-mul-left, mul-suc}
 use lib.Dec.{T, eqb, lit<}
 use lib.ListN.{length, length-append}
 use mir.Facts.{yes-and, yes-eqb}
 use Rattle.laws.specs.Lists.{All, from, join}
 use Rattle.laws.proofs.Lists.{all-append, all-map, all-join, length-join-append}
+use Rattle.meaning.specs.declared.Cell.{Cell}
 use Rattle.meaning.specs.declared.SubAddress.{SubAddress}
 use Rattle.meaning.specs.declared.VideoOffset.{VideoOffset}
 use Rattle.meaning.specs.Words.{Word, count, offset, videoOffset, paraAdr, paraOS, paraType, paraSubType, subAddress, data24}
-use Rattle.meaning.specs.Registers.{cells, cell, registerAt, Row, Group, targetGroup, stage, sample, groups, scaler, videoRows, find3D}
+use Rattle.meaning.specs.Registers.{cells, cell, registerAt, Row, Group, Section, of3D, ofVideo, targetGroup, stage, sample, overlay, scaler, sections, find3D}
 use Rattle.meaning.specs.Grants.{Terms}
 use Rattle.meaning.specs.Batch.{offset3D, typeAllowed, allowed, named, ParameterStands, Packet, packet3D, packetVideo, Packet3D, PacketVideo}
-use Rattle.meaning.specs.State.{valueAt, markAt, Write, writeTo, writes3D, writesRun, packetWrites, allWrites}
-use Rattle.meaning.specs.Writer.{headerWord, settingWord, ifMarked, parameters, packetOf, packets3D, packetsVideo, packetsOf, written}
-use Rattle.meaning.specs.Reasons.{CellFine}
+use Rattle.meaning.specs.State.{valueAt, markAt, isMark, marked, one, countIn, Write, writeTo, writes3D, writesRun, packetWrites, allWrites}
+use Rattle.meaning.specs.Writer.{headerWord, settingWord, ifSo, parameters, packet3DOf, packetsVideo, packetsIn, packetsAmong, wordsFor, packetsOf, written, mostWritten, countRows, packetNeed, needIn, needAmong, needFor}
+use Rattle.meaning.specs.Reasons.{MayHold, CellFine}
 use Rattle.meaning.proofs.Packets.{never-both}
-use Rattle.meaning.proofs.Table.{Row3D, RowVideo, Rows, Groups, table-3D, table-video, firstVideo}
+use Rattle.meaning.proofs.Table.{Row3D, RowVideo, Rows, GroupAt, SectionAt, rowsIn, Sections, rowsAmong, table, all-rows}
 
--- the writes of the marked cells among n from cell i on
-unfoldable pub markedFrom : List ℕ → ℕ → ℕ → List Write
-markedFrom st i zero = []
-markedFrom st i (suc n) = ifMarked (markAt st (cell i)) (record { cell = cell i; value = valueAt st (cell i) }) (markedFrom st (suc i) n)
+-- the writes of the chosen cells among n from cell i on
+unfoldable pub chosenFrom : (Cell → Bool) → List ℕ → ℕ → ℕ → List Write
+chosenFrom chosen st i zero = []
+chosenFrom chosen st i (suc n) = ifSo (chosen (cell i)) (record { cell = cell i; value = valueAt st (cell i) }) (chosenFrom chosen st (suc i) n)
 
 -- each marked cell holds what it may
 abbrev pub AllFine : Terms → List ℕ → Type 0
 AllFine g st = (c : ℕ) → c < cells → CellFine g st (cell c)
 
--- ---- lists with `ifMarked`
+-- so does each chosen one
+abbrev pub ChosenFine : Terms → (Cell → Bool) → List ℕ → Type 0
+ChosenFine g chosen st = (c : ℕ) → c < cells → T (chosen (cell c)) → MayHold g (cell c) (valueAt st (cell c))
 
-pub marked-all {ℓ} : {A : Type ℓ} (P : A → Type 0) (m : ℕ) (x : A) (xs : List A) → (0 < m → P x) → All P xs → All P (ifMarked m x xs)
-marked-all P zero x xs h a = a
-marked-all P (suc m) x xs h a = (h (zero-lt-suc m), a)
+is-mark : (m : ℕ) → T (isMark m) → 0 < m
+is-mark zero t = absurd t
+is-mark (suc m) t = zero-lt-suc m
+
+pub marked-fine : (g : Terms) (st : List ℕ) → AllFine g st → ChosenFine g (marked st) st
+marked-fine g st ok c l t = ok c l (is-mark (markAt st (cell c)) t)
+
+-- ---- lists with `ifSo`
+
+pub so-all {ℓ} : {A : Type ℓ} (P : A → Type 0) (b : Bool) (x : A) (xs : List A) → (T b → P x) → All P xs → All P (ifSo b x xs)
+so-all P false x xs h a = a
+so-all P true x xs h a = (h tt, a)
 
 -- a function that goes element by element
-marked-map {ℓ} : {A : Type ℓ} (f : List A → List Write) (one : A → List Write) → ((x : A) (xs : List A) → f (x ∷ xs) ≡ one x ++ f xs)
-    → (m : ℕ) (x : A) (w : Write) (xs : List A) (ws : List Write) → (0 < m → one x ≡ w ∷ []) → f xs ≡ ws → f (ifMarked m x xs) ≡ ifMarked m w ws
-marked-map f one step zero x w xs ws h e = e
-marked-map f one step (suc m) x w xs ws h e = step x xs ∙ ap₂ (λ (a b : List Write). a ++ b) (h (zero-lt-suc m)) e
+so-map {ℓ} : {A : Type ℓ} (f : List A → List Write) (each : A → List Write) → ((x : A) (xs : List A) → f (x ∷ xs) ≡ each x ++ f xs)
+    → (b : Bool) (x : A) (w : Write) (xs : List A) (ws : List Write) → (T b → each x ≡ w ∷ []) → f xs ≡ ws → f (ifSo b x xs) ≡ ifSo b w ws
+so-map f each step false x w xs ws h e = e
+so-map f each step true x w xs ws h e = step x xs ∙ ap₂ (λ (a b : List Write). a ++ b) (h tt) e
 
-pub marked-length {ℓ} : {A : Type ℓ} (m : ℕ) (x : A) (xs : List A) → length (ifMarked m x xs) ≤ suc (length xs)
-marked-length zero x xs = omega arith
-marked-length (suc m) x xs = omega arith
+pub so-length {ℓ} : {A : Type ℓ} (b : Bool) (x : A) (xs : List A) → length (ifSo b x xs) ≡ one b + length xs
+so-length false x xs = omega arith
+so-length true x xs = omega arith
 
-pub marked-join {ℓ} : {A : Type ℓ} (m : ℕ) (x : List A) (xs : List (List A)) → length (join (ifMarked m x xs)) ≤ length x + length (join xs)
-marked-join zero x xs = omega arith
-marked-join (suc m) x xs = omega (arith, length-append x (join xs))
+pub so-join {ℓ} : {A : Type ℓ} (b : Bool) (x : List A) (xs : List (List A)) → length (join (ifSo b x xs)) ≡ length x * one b + length (join xs)
+so-join false x xs = omega arith
+so-join true x xs = omega (arith, length-append x (join xs))
 
-marked-append {ℓ} : {A : Type ℓ} (m : ℕ) (x : A) (xs ys : List A) → ifMarked m x xs ++ ys ≡ ifMarked m x (xs ++ ys)
-marked-append zero x xs ys = refl
-marked-append (suc m) x xs ys = refl
+pub so-append {ℓ} : {A : Type ℓ} (b : Bool) (x : A) (xs ys : List A) → ifSo b x xs ++ ys ≡ ifSo b x (xs ++ ys)
+so-append false x xs ys = refl
+so-append true x xs ys = refl
 
-marked-add : (st : List ℕ) (i n m : ℕ) → markedFrom st i n ++ markedFrom st (i + n) m ≡ markedFrom st i (n + m)
-unfolding markedFrom
-marked-add st i zero m = rw (add-zero, zero-add)
-marked-add st i (suc n) m =
+pub one-few : (b : Bool) → one b ≤ 1
+one-few false = omega arith
+one-few true = omega arith
+
+pub chosen-add : (chosen : Cell → Bool) (st : List ℕ) (i n m : ℕ) → chosenFrom chosen st i n ++ chosenFrom chosen st (i + n) m ≡ chosenFrom chosen st i (n + m)
+unfolding chosenFrom
+chosen-add chosen st i zero m = rw (add-zero, zero-add)
+chosen-add chosen st i (suc n) m =
     rw (suc-add n m, add-suc i n, ← suc-add i n)
-    (marked-append (markAt st (cell i)) _ (markedFrom st (suc i) n) _
-    ∙ ap (ifMarked (markAt st (cell i)) (record { cell = cell i; value = valueAt st (cell i) })) (marked-add st (suc i) n m))
+    (so-append (chosen (cell i)) _ (chosenFrom chosen st (suc i) n) _
+    ∙ ap (ifSo (chosen (cell i)) (record { cell = cell i; value = valueAt st (cell i) })) (chosen-add chosen st (suc i) n m))
 
 -- ---- the words that are put together, taken apart
 
@@ -106,40 +124,46 @@ parameter-data : (n v : ℕ) → v < 2 ^ 24 → data24 (n * 2 ^ 24 + v) ≡ v
 unfolding data24
 parameter-data n v l = omega arith
 
--- ---- what is emitted for a state whose marked cells hold what they may
+-- ---- what is written for chosen cells that hold what they may
 
 -- a parameter, and a packet: permitted, and of 32-bit words
 abbrev GoodParameter : Terms → ℕ → ℕ → Type 0
 GoodParameter g s p = ParameterStands g s p × Word p
 
-abbrev GoodPacket : Terms → List ℕ → Type 0
+abbrev pub GoodPacket : Terms → List ℕ → Type 0
 GoodPacket g p = Packet g p × All Word p
 
--- the number of rows in groups
-unfoldable pub rowsIn : List Group → ℕ
-rowsIn [] = 0
-rowsIn (G ∷ Gs) = length (G .rows) + rowsIn Gs
+-- as many parameters as cells are chosen
+pub parameters-length : (chosen : Cell → Bool) (st : List ℕ) (rs : List (Row SubAddress)) → length (parameters chosen st rs) ≡ countRows chosen rs
+unfolding parameters countRows
+parameters-length chosen st [] = refl
+parameters-length chosen st (r ∷ rs) = so-length (chosen (r .cell)) _ (parameters chosen st rs) ∙ ap (λ (n : ℕ). one (chosen (r .cell)) + n) (parameters-length chosen st rs)
 
-parameters-few : (st : List ℕ) (rs : List (Row SubAddress)) → length (parameters st rs) ≤ length rs
-unfolding parameters
-parameters-few st [] = omega arith
-parameters-few st (r ∷ rs) =
-    omega (arith, marked-length (markAt st (r .cell)) (r .name .0 * 2 ^ 24 + valueAt st (r .cell)) (parameters st rs), parameters-few st rs)
+pub rows-few : {Name : Type 0} (chosen : Cell → Bool) (rs : List (Row Name)) → countRows chosen rs ≤ length rs
+unfolding countRows
+rows-few chosen [] = omega arith
+rows-few chosen (r ∷ rs) = omega (arith, one-few (chosen (r .cell)), rows-few chosen rs)
 
-module _ (g : Terms) (st : List ℕ) (ok : AllFine g st) where
+all-writes-append : (ps qs : List (List ℕ)) → allWrites (ps ++ qs) ≡ allWrites ps ++ allWrites qs
+unfolding allWrites
+all-writes-append [] qs = refl
+all-writes-append (p ∷ ps) qs =
+    ap (λ (x : List Write). packetWrites p ++ x) (all-writes-append ps qs) ∙ sym (append-assoc (packetWrites p) (allWrites ps) (allWrites qs))
+
+module _ (g : Terms) (chosen : Cell → Bool) (st : List ℕ) (ok : ChosenFine g chosen st) where
   -- ---- parameters
 
-  value-fits : (i n : ℕ) → i < cells → registerAt (cell i) .width ≡ n → 0 < markAt st (cell i) → valueAt st (cell i) < 2 ^ n
+  value-fits : (i n : ℕ) → i < cells → registerAt (cell i) .width ≡ n → T (chosen (cell i)) → valueAt st (cell i) < 2 ^ n
   value-fits i n l e m = rw e at (ok i l m .narrow)
 
   module _ (t u : ℕ) (lt : t < 256) (lu : u < 256) where
-    parameters-good : (i : ℕ) (rs : List (Row SubAddress)) → Rows (Row3D t u) i rs → All (GoodParameter g (settingWord t u)) (parameters st rs)
+    parameters-good : (i : ℕ) (rs : List (Row SubAddress)) → Rows (Row3D t u) i rs → All (GoodParameter g (settingWord t u)) (parameters chosen st rs)
     unfolding parameters
     parameters-good i [] a = tt
     parameters-good i (r ∷ rs) a =
         let row = a .0 in
         rw (row .numbered)
-        (marked-all (GoodParameter g (settingWord t u)) (markAt st (cell i)) _ (parameters st rs)
+        (so-all (GoodParameter g (settingWord t u)) (chosen (cell i)) _ (parameters chosen st rs)
         (λ m.
         let l = value-fits i 24 (row .high) (row .width) m in (
           rw (parameter-named t u lt lu (r .name) (valueAt st (cell i)) (row .short) l, parameter-data (r .name .0) (valueAt st (cell i)) l, row .found)
@@ -149,25 +173,25 @@ module _ (g : Terms) (st : List ℕ) (ok : AllFine g st) where
         (parameters-good (suc i) rs (a .1)))
 
     parameters-writes : (i : ℕ) (rs : List (Row SubAddress)) → Rows (Row3D t u) i rs
-        → writes3D (settingWord t u) (parameters st rs) ≡ markedFrom st i (length rs)
-    unfolding parameters writes3D markedFrom
+        → writes3D (settingWord t u) (parameters chosen st rs) ≡ chosenFrom chosen st i (length rs)
+    unfolding parameters writes3D chosenFrom
     parameters-writes i [] a = refl
     parameters-writes i (r ∷ rs) a =
         let row = a .0 in
         rw (row .numbered)
-        (marked-map (writes3D (settingWord t u)) (λ (p : ℕ). writeTo (named (settingWord t u) p) (data24 p)) (λ x xs. refl) (markAt st (cell i))
-        (r .name .0 * 2 ^ 24 + valueAt st (cell i)) (record { cell = cell i; value = valueAt st (cell i) }) (parameters st rs) (markedFrom st (suc i) (length rs))
+        (so-map (writes3D (settingWord t u)) (λ (p : ℕ). writeTo (named (settingWord t u) p) (data24 p)) (λ x xs. refl) (chosen (cell i))
+        (r .name .0 * 2 ^ 24 + valueAt st (cell i)) (record { cell = cell i; value = valueAt st (cell i) }) (parameters chosen st rs)
+        (chosenFrom chosen st (suc i) (length rs))
         (λ m.
         let l = value-fits i 24 (row .high) (row .width) m in
         rw (parameter-named t u lt lu (r .name) (valueAt st (cell i)) (row .short) l, parameter-data (r .name .0) (valueAt st (cell i)) l, row .found))
         (parameters-writes (suc i) rs (a .1)))
 
-  -- ---- packets of groups
+  -- ---- the packet of a group
 
-  packet-good : (s : ℕ) (ps : List ℕ) (more : List (List ℕ)) → T (allowed s) → Word s → length ps ≤ 112 → All (GoodParameter g s) ps
-      → All (GoodPacket g) more → All (GoodPacket g) (packetOf s ps more)
-  packet-good s [] more t w l a b = b
-  packet-good s (p ∷ ps) more t w l a b =
+  packet-good : (s : ℕ) (ps : List ℕ) → T (allowed s) → Word s → length ps ≤ 112 → All (GoodParameter g s) ps → All (GoodPacket g) (packet3DOf s ps)
+  packet-good s [] t w l a = tt
+  packet-good s (p ∷ ps) t w l a =
       let n = length (s ∷ p ∷ ps) in
       let e : count (headerWord n offset3D) ≡ n = header-count n offset3D (omega arith) (lit< tt) in
       let c : Packet3D g (headerWord n offset3D) s (p ∷ ps) = record {
@@ -178,33 +202,12 @@ module _ (g : Terms) (st : List ℕ) (ok : AllFine g st) where
         setting = t;
         parameters = all-map (GoodParameter g s) (ParameterStands g s) (λ x q. q .0) (p ∷ ps) a;
       } in
-      ((packet3D c, (omega arith, (w, all-map (GoodParameter g s) Word (λ x q. q .1) (p ∷ ps) a))), b)
+      ((packet3D c, (omega arith, (w, all-map (GoodParameter g s) Word (λ x q. q .1) (p ∷ ps) a))), tt)
 
-  packet-writes : (s : ℕ) (ps : List ℕ) (more : List (List ℕ)) → allWrites (packetOf s ps more) ≡ writes3D s ps ++ allWrites more
+  packet-writes : (s : ℕ) (ps : List ℕ) → allWrites (packet3DOf s ps) ≡ writes3D s ps ++ []
   unfolding allWrites packetWrites writes3D
-  packet-writes s [] more = refl
-  packet-writes s (p ∷ ps) more = rw (header-offset (length (s ∷ p ∷ ps)) offset3D (lit< tt))
-
-  groups-good : (i : ℕ) (Gs : List Group) → Groups i Gs → All (GoodPacket g) (packets3D st Gs)
-  unfolding packets3D
-  groups-good i [] a = tt
-  groups-good i (G ∷ Gs) a =
-      let G-at = a .0 in
-      packet-good (settingWord (G .type) (G .subType)) (parameters st (G .rows)) (packets3D st Gs)
-      (setting-allowed (G .type) (G .subType) (G-at .type) (G-at .subType) (G-at .permitted))
-      (omega (arith, G-at .type, G-at .subType))
-      (omega (arith, parameters-few st (G .rows), G-at .few))
-      (parameters-good (G .type) (G .subType) (G-at .type) (G-at .subType) i (G .rows) (G-at .rows))
-      (groups-good (i + length (G .rows)) Gs (a .1))
-
-  groups-writes : (i : ℕ) (Gs : List Group) → Groups i Gs → allWrites (packets3D st Gs) ≡ markedFrom st i (rowsIn Gs)
-  unfolding packets3D rowsIn allWrites markedFrom
-  groups-writes i [] a = refl
-  groups-writes i (G ∷ Gs) a =
-      packet-writes (settingWord (G .type) (G .subType)) (parameters st (G .rows)) (packets3D st Gs)
-      ∙ ap₂ (λ (x y : List Write). x ++ y) (parameters-writes (G .type) (G .subType) (a .0 .type) (a .0 .subType) i (G .rows) (a .0 .rows))
-      (groups-writes (i + length (G .rows)) Gs (a .1))
-      ∙ marked-add st i (length (G .rows)) (rowsIn Gs)
+  packet-writes s [] = refl
+  packet-writes s (p ∷ ps) = rw (header-offset (length (s ∷ p ∷ ps)) offset3D (lit< tt))
 
   -- ---- packets of video cells
 
@@ -216,7 +219,7 @@ module _ (g : Terms) (st : List ℕ) (ok : AllFine g st) where
     unfolding at-offset
     one-offset = ap at-offset (header-offset 1 (r .name .0) (row .short))
 
-    one-good : 0 < markAt st (cell i) → GoodPacket g onePacket
+    one-good : T (chosen (cell i)) → GoodPacket g onePacket
     one-good m =
         let e : count (headerWord 1 (r .name .0)) ≡ 1 = header-count 1 (r .name .0) (lit< tt) (row .short) in
         let c : PacketVideo g (headerWord 1 (r .name .0)) (valueAt st (cell i) ∷ []) = record {
@@ -232,86 +235,168 @@ module _ (g : Terms) (st : List ℕ) (ok : AllFine g st) where
         let other : eqb (r .name .0) offset3D ≡ _ = never-both (r .name .0) (rw (row .found) tt) in
         rw (header-offset 1 (r .name .0) (row .short), other, row .found)
 
-  video-good : (i : ℕ) (rs : List (Row VideoOffset)) → Rows RowVideo i rs → All (GoodPacket g) (packetsVideo st rs)
+  video-good : (i : ℕ) (rs : List (Row VideoOffset)) → Rows RowVideo i rs → All (GoodPacket g) (packetsVideo chosen st rs)
   unfolding packetsVideo
   video-good i [] a = tt
   video-good i (r ∷ rs) a =
       rw (a .0 .numbered)
-      (marked-all (GoodPacket g) (markAt st (cell i)) (onePacket i r (a .0)) (packetsVideo st rs) (one-good i r (a .0)) (video-good (suc i) rs (a .1)))
+      (so-all (GoodPacket g) (chosen (cell i)) (onePacket i r (a .0)) (packetsVideo chosen st rs) (one-good i r (a .0)) (video-good (suc i) rs (a .1)))
 
-  video-writes : (i : ℕ) (rs : List (Row VideoOffset)) → Rows RowVideo i rs → allWrites (packetsVideo st rs) ≡ markedFrom st i (length rs)
-  unfolding packetsVideo allWrites markedFrom
+  video-writes : (i : ℕ) (rs : List (Row VideoOffset)) → Rows RowVideo i rs → allWrites (packetsVideo chosen st rs) ≡ chosenFrom chosen st i (length rs)
+  unfolding packetsVideo allWrites chosenFrom
   video-writes i [] a = refl
   video-writes i (r ∷ rs) a =
       rw (a .0 .numbered)
-      (marked-map allWrites packetWrites (λ x xs. refl) (markAt st (cell i)) (onePacket i r (a .0)) (record { cell = cell i; value = valueAt st (cell i) })
-      (packetsVideo st rs) (markedFrom st (suc i) (length rs)) (λ m. one-write i r (a .0)) (video-writes (suc i) rs (a .1)))
+      (so-map allWrites packetWrites (λ x xs. refl) (chosen (cell i)) (onePacket i r (a .0)) (record { cell = cell i; value = valueAt st (cell i) })
+      (packetsVideo chosen st rs) (chosenFrom chosen st (suc i) (length rs)) (λ m. one-write i r (a .0)) (video-writes (suc i) rs (a .1)))
+
+  -- ---- sections
+
+  section-good : (i : ℕ) (s : Section) → SectionAt i s → All (GoodPacket g) (packetsIn chosen st s)
+  section-good i (of3D G) a =
+      packet-good (settingWord (G .type) (G .subType)) (parameters chosen st (G .rows))
+      (setting-allowed (G .type) (G .subType) (a .type) (a .subType) (a .permitted))
+      (omega (arith, a .type, a .subType))
+      (omega (arith, parameters-length chosen st (G .rows), rows-few chosen (G .rows), a .few))
+      (parameters-good (G .type) (G .subType) (a .type) (a .subType) i (G .rows) (a .rows))
+  section-good i (ofVideo rs) a = video-good i rs a
+
+  no-more : (ws : List Write) → ws ++ [] ≡ ws
+  no-more [] = refl
+  no-more (w ∷ ws) = ap (λ (x : List Write). w ∷ x) (no-more ws)
+
+  section-writes : (i : ℕ) (s : Section) → SectionAt i s → allWrites (packetsIn chosen st s) ≡ chosenFrom chosen st i (rowsIn s)
+  section-writes i (of3D G) a =
+      packet-writes (settingWord (G .type) (G .subType)) (parameters chosen st (G .rows))
+      ∙ no-more (writes3D (settingWord (G .type) (G .subType)) (parameters chosen st (G .rows)))
+      ∙ parameters-writes (G .type) (G .subType) (a .type) (a .subType) i (G .rows) (a .rows)
+  section-writes i (ofVideo rs) a = video-writes i rs a
+
+  pub sections-good : (i : ℕ) (ss : List Section) → Sections i ss → All (GoodPacket g) (packetsAmong chosen st ss)
+  unfolding packetsAmong
+  sections-good i [] a = tt
+  sections-good i (s ∷ ss) a =
+      all-append (GoodPacket g) (packetsIn chosen st s) (packetsAmong chosen st ss) (section-good i s (a .0)) (sections-good (i + rowsIn s) ss (a .1))
+
+  pub sections-writes : (i : ℕ) (ss : List Section) → Sections i ss → allWrites (packetsAmong chosen st ss) ≡ chosenFrom chosen st i (rowsAmong ss)
+  unfolding packetsAmong rowsAmong allWrites chosenFrom
+  sections-writes i [] a = refl
+  sections-writes i (s ∷ ss) a =
+      all-writes-append (packetsIn chosen st s) (packetsAmong chosen st ss)
+      ∙ ap₂ (λ (x y : List Write). x ++ y) (section-writes i s (a .0)) (sections-writes (i + rowsIn s) ss (a .1))
+      ∙ chosen-add chosen st i (rowsIn s) (rowsAmong ss)
 
 -- ---- the whole state
 
-pub rows-84 : rowsIn groups ≡ 84
-unfolding rowsIn groups targetGroup stage sample from
-rows-84 = refl
-
-pub rows-17 : length videoRows ≡ 17
-unfolding videoRows scaler
-rows-17 = refl
-
-all-writes-append : (ps qs : List (List ℕ)) → allWrites (ps ++ qs) ≡ allWrites ps ++ allWrites qs
-unfolding allWrites
-all-writes-append [] qs = refl
-all-writes-append (p ∷ ps) qs =
-    ap (λ (x : List Write). packetWrites p ++ x) (all-writes-append ps qs) ∙ sym (append-assoc (packetWrites p) (allWrites ps) (allWrites qs))
-
 good-packets : (g : Terms) (st : List ℕ) → AllFine g st → All (GoodPacket g) (packetsOf st)
 unfolding packetsOf
-good-packets g st ok =
-    all-append (GoodPacket g) (packets3D st groups) (packetsVideo st videoRows) (groups-good g st ok 0 groups table-3D)
-    (video-good g st ok firstVideo videoRows table-video)
+good-packets g st ok = sections-good g (marked st) st (marked-fine g st ok) 0 sections table
 
 pub written-permitted : (g : Terms) (st : List ℕ) → AllFine g st → All (Packet g) (packetsOf st)
 written-permitted g st ok = all-map (GoodPacket g) (Packet g) (λ p q. q .0) (packetsOf st) (good-packets g st ok)
 
 pub written-words : (g : Terms) (st : List ℕ) → AllFine g st → All Word (written st)
-unfolding written
+unfolding written wordsFor packetsOf
 written-words g st ok = all-join Word (packetsOf st) (all-map (GoodPacket g) (All Word) (λ p q. q .1) (packetsOf st) (good-packets g st ok))
 
-pub written-writes : (g : Terms) (st : List ℕ) → AllFine g st → allWrites (packetsOf st) ≡ markedFrom st 0 cells
+pub written-writes : (g : Terms) (st : List ℕ) → AllFine g st → allWrites (packetsOf st) ≡ chosenFrom (marked st) st 0 cells
 unfolding packetsOf
-written-writes g st ok =
-    all-writes-append (packets3D st groups) (packetsVideo st videoRows)
-    ∙ ap₂ (λ (x y : List Write). x ++ y)
-    (groups-writes g st ok 0 groups table-3D ∙ ap (markedFrom st 0) rows-84)
-    (video-writes g st ok firstVideo videoRows table-video ∙ ap (markedFrom st firstVideo) rows-17)
-    ∙ marked-add st 0 84 17
+written-writes g st ok = sections-writes g (marked st) st (marked-fine g st ok) 0 sections table ∙ ap (chosenFrom (marked st) st 0) all-rows
 
--- ---- "It needs at most 184 words": two for each type and sub-type, one for each 3D cell, two for each video cell
+-- ---- how many words that is
 
-room3D : List Group → ℕ
-room3D [] = 0
-room3D (G ∷ Gs) = 2 + length (G .rows) + room3D Gs
+module _ (chosen : Cell → Bool) where
+  module _ (st : List ℕ) where
+    packet-length : (s : ℕ) (ps : List ℕ) → length (join (packet3DOf s ps)) ≡ packetNeed (length ps)
+    unfolding packetNeed
+    packet-length s [] = refl
+    packet-length s (p ∷ ps) = omega (arith, length-append (headerWord (length (s ∷ p ∷ ps)) offset3D ∷ s ∷ p ∷ ps) [])
 
-packet-room : (s : ℕ) (ps : List ℕ) (more : List (List ℕ)) → length (join (packetOf s ps more)) ≤ 2 + length ps + length (join more)
-packet-room s [] more = omega arith
-packet-room s (p ∷ ps) more = omega (arith, length-append (headerWord (length (s ∷ p ∷ ps)) offset3D ∷ s ∷ p ∷ ps) (join more))
+    video-length : (rs : List (Row VideoOffset)) → length (join (packetsVideo chosen st rs)) ≡ 2 * countRows chosen rs
+    unfolding packetsVideo countRows
+    video-length [] = refl
+    video-length (r ∷ rs) =
+        omega (arith, so-join (chosen (r .cell)) (headerWord 1 (r .name .0) ∷ valueAt st (r .cell) ∷ []) (packetsVideo chosen st rs), video-length rs)
 
-groups-room : (st : List ℕ) (Gs : List Group) → length (join (packets3D st Gs)) ≤ room3D Gs
-unfolding packets3D room3D
-groups-room st [] = omega arith
-groups-room st (G ∷ Gs) =
-    omega (arith, packet-room (settingWord (G .type) (G .subType)) (parameters st (G .rows)) (packets3D st Gs), parameters-few st (G .rows), groups-room st Gs)
+    section-length : (s : Section) → length (join (packetsIn chosen st s)) ≡ needIn chosen s
+    section-length (of3D G) = packet-length (settingWord (G .type) (G .subType)) (parameters chosen st (G .rows)) ∙ ap packetNeed (parameters-length chosen st (G .rows))
+    section-length (ofVideo rs) = video-length rs
 
-video-room : (st : List ℕ) (rs : List (Row VideoOffset)) → length (join (packetsVideo st rs)) ≤ 2 * length rs
-unfolding packetsVideo
-video-room st [] = omega arith
-video-room st (r ∷ rs) =
-    omega (arith, marked-join (markAt st (r .cell)) (headerWord 1 (r .name .0) ∷ valueAt st (r .cell) ∷ []) (packetsVideo st rs), video-room st rs)
+    pub sections-length : (ss : List Section) → length (join (packetsAmong chosen st ss)) ≡ needAmong chosen ss
+    unfolding packetsAmong needAmong
+    sections-length [] = refl
+    sections-length (s ∷ ss) =
+        length-join-append (packetsIn chosen st s) (packetsAmong chosen st ss) ∙ ap₂ (λ (x y : ℕ). x + y) (section-length s) (sections-length ss)
 
-room-150 : room3D groups ≡ 150
-unfolding room3D groups targetGroup stage sample from
-room-150 = refl
+    -- the words for chosen cells are as many as they need
+    pub need-is-length : length (wordsFor chosen st) ≡ needFor chosen
+    unfolding wordsFor needFor
+    need-is-length = sections-length sections
 
-pub at-most-184 : (st : List ℕ) → length (written st) ≤ 184
-unfolding written packetsOf
-at-most-184 st =
-    omega (arith, length-join-append (packets3D st groups) (packetsVideo st videoRows), groups-room st groups, video-room st videoRows, room-150, rows-17)
+  -- two for each type and sub-type, one for each 3D cell, two for each video cell
+  abbrev roomIn : Section → ℕ
+  roomIn (of3D G) = 2 + length (G .rows)
+  roomIn (ofVideo rs) = 2 * length rs
+
+  roomAmong : List Section → ℕ
+  roomAmong [] = 0
+  roomAmong (s ∷ ss) = roomIn s + roomAmong ss
+
+  need-few : (n : ℕ) → packetNeed n ≤ 2 + n
+  unfolding packetNeed
+  need-few zero = omega arith
+  need-few (suc n) = omega arith
+
+  section-room : (s : Section) → needIn chosen s ≤ roomIn s
+  section-room (of3D G) = omega (arith, need-few (countRows chosen (G .rows)), rows-few chosen (G .rows))
+  section-room (ofVideo rs) = omega (arith, rows-few chosen rs)
+
+  sections-room : (ss : List Section) → needAmong chosen ss ≤ roomAmong ss
+  unfolding needAmong roomAmong
+  sections-room [] = omega arith
+  sections-room (s ∷ ss) = omega (arith, section-room s, sections-room ss)
+
+  all-room : roomAmong sections ≡ mostWritten
+  unfolding roomAmong sections targetGroup stage sample overlay scaler from
+  all-room = refl
+
+  -- "It needs at most 184 words"
+  pub need-at-most : needFor chosen ≤ mostWritten
+  unfolding needFor
+  need-at-most = omega (arith, sections-room sections, all-room)
+
+pub written-at-most : (st : List ℕ) → length (written st) ≤ mostWritten
+unfolding written
+written-at-most st = omega (arith, need-is-length (marked st) st, need-at-most (marked st))
+
+-- ---- counts by cell number
+
+pub count-add : (chosen : Cell → Bool) (i n m : ℕ) → countIn chosen i n + countIn chosen (i + n) m ≡ countIn chosen i (n + m)
+unfolding countIn
+count-add chosen i zero m =
+    let here : i + 0 ≡ i = omega arith in
+    let all : 0 + m ≡ m = omega arith in
+    rw (here, all) (omega arith)
+count-add chosen i (suc n) m = rw (suc-add n m, add-suc i n, ← suc-add i n) (omega (arith, count-add chosen (suc i) n m))
+
+pub count-few : (chosen : Cell → Bool) (i n : ℕ) → countIn chosen i n ≤ n
+unfolding countIn
+count-few chosen i zero = omega arith
+count-few chosen i (suc n) = omega (arith, one-few (chosen (cell i)), count-few chosen (suc i) n)
+
+-- of groups that have so many cells each and follow one another, each lies where all do
+pub in-series : (first rows many n end : ℕ) → first + rows * many ≤ end → n < many → first + rows * n + rows ≤ end
+in-series first rows many n end all less = omega (arith, mul-le-mul-left rows less, mul-suc rows n)
+
+-- the cells of rows that are numbered from i on
+rows-count : {Name : Type 0} (chosen : Cell → Bool) (P : ℕ → Row Name → Type 0) → ((j : ℕ) (r : Row Name) → P j r → r .cell ≡ cell j)
+    → (i : ℕ) (rs : List (Row Name)) → Rows P i rs → countRows chosen rs ≡ countIn chosen i (length rs)
+unfolding countRows countIn
+rows-count chosen P is i [] a = refl
+rows-count chosen P is i (r ∷ rs) a = rw (is i r (a .0), rows-count chosen P is (suc i) rs (a .1))
+
+pub count-3D : (chosen : Cell → Bool) (i : ℕ) (G : Group) → GroupAt i G → countRows chosen (G .rows) ≡ countIn chosen i (length (G .rows))
+count-3D chosen i G a = rows-count chosen (Row3D (G .type) (G .subType)) (λ j r x. x .numbered) i (G .rows) (a .rows)
+
+pub count-video : (chosen : Cell → Bool) (i : ℕ) (rs : List (Row VideoOffset)) → Rows RowVideo i rs → countRows chosen rs ≡ countIn chosen i (length rs)
+count-video chosen i rs a = rows-count chosen RowVideo (λ j r x. x .numbered) i rs a

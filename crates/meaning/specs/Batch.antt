@@ -13,13 +13,13 @@ use Rattle.meaning.specs.declared.VideoOffset.{VideoOffset}
 use Rattle.meaning.specs.declared.Found.{Found}
 use Rattle.meaning.specs.declared.Found.the-variants.{At, Missing}
 use Rattle.meaning.specs.Words.{Word, count, offset, videoOffset, following, paraAdr, paraOS, paraType, paraSubType, subAddress, data24}
-use Rattle.meaning.specs.Registers.{Held, nothing, address, Register, find3D, findVideo, registerAt}
+use Rattle.meaning.specs.Registers.{Content, nothing, address, Register, find3D, findVideo, registerAt}
 use Rattle.meaning.specs.Grants.{Terms, granted}
 
 -- ---- a value in a register
 
 -- where a value holds an address, it is granted
-abbrev pub reaches : Terms → Held → Bool
+abbrev pub reaches : Terms → Content → Bool
 reaches g nothing = true
 reaches g (address role a) = granted (g .grants) role a
 
@@ -107,7 +107,7 @@ pub record Longest (g : Terms) (ws : List ℕ) (p : ℕ) : Type 0 where
 
 -- the role "has at least one granted address that its registers can hold": "a multiple of 16 below 2^29"
 pub record Holdable (g : Terms) (role : ℕ) : Type 0 where
-  pub held : ℕ
-  pub multiple : held % 16 ≡ 0
-  pub small : held < 2 ^ 29
-  pub allows : T (granted (g .grants) role held)
+  pub address : ℕ
+  pub multiple : address % 16 ≡ 0
+  pub small : address < 2 ^ 29
+  pub allows : T (granted (g .grants) role address)

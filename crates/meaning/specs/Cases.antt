@@ -74,7 +74,7 @@ slips =
     -- "The empty batch is permitted"
     ∷ record { batch = []; grants = []; gives = answer 0 0; leaves = empty }
     -- two packets are two writes
-    ∷ record { batch = 0x00012208 ∷ 0x07FF07FF ∷ 0x0001220C ∷ 0x00000001 ∷ []; grants = []; gives = answer 0 4; leaves = set (set (holding 84 0x07FF07FF) 85 1) 186 1 }
+    ∷ record { batch = 0x00012208 ∷ 0x07FF07FF ∷ 0x0001220C ∷ 0x00000001 ∷ []; grants = []; gives = answer 0 4; leaves = set (set (holding 84 0x07FF07FF) 85 1) (cells + 85) 1 }
     -- the second packet is refused, so the first has not happened
     ∷ record { batch = 0x00012208 ∷ 0x07FF07FF ∷ 0x0001220C ∷ 0xF8000000 ∷ []; grants = []; gives = answer 7 3; leaves = empty }
     -- short by a word, but its bad word comes first

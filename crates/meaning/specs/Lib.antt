@@ -13,7 +13,7 @@ pub mod Reader
 pub mod Writer
 pub mod Text
 pub mod Lister
-pub mod Calls
+pub mod Exported
 pub mod Reasons
-pub mod Memory
+pub mod Fitter
 pub mod Cases

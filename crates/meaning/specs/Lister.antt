@@ -9,10 +9,10 @@ use Rattle.laws.specs.Lists.{join, over}
 use Rattle.meaning.specs.declared.SubAddress.{SubAddress}
 use Rattle.meaning.specs.declared.VideoOffset.{VideoOffset}
 use Rattle.meaning.specs.declared.Answer.{Answer}
-use Rattle.meaning.specs.Registers.{Row, Group, groups, videoRows}
-use Rattle.meaning.specs.State.{valueAt, markAt, wellFormed}
+use Rattle.meaning.specs.Registers.{Row, Section, of3D, ofVideo, sections}
+use Rattle.meaning.specs.State.{valueAt, marked, wellFormed}
 use Rattle.meaning.specs.Answers.{badState, noRoom, success, answer, provided, settle}
-use Rattle.meaning.specs.Writer.{ifMarked}
+use Rattle.meaning.specs.Writer.{ifSo}
 use Rattle.meaning.specs.Text.{ascii}
 
 -- ---- digits
@@ -45,16 +45,25 @@ lineVideo o v = ascii "reg=" ++ (hex 4 (o .0) ++ (ascii " val=" ++ (hex 8 v ++ a
 -- the lines of the marked cells among rows
 unfoldable pub linesOf : {Name : Type 0} → (Name → ℕ → List ℕ) → List ℕ → List (Row Name) → List (List ℕ)
 linesOf line st [] = []
-linesOf line st (r ∷ rs) = ifMarked (markAt st (r .cell)) (line (r .name) (valueAt st (r .cell))) (linesOf line st rs)
+linesOf line st (r ∷ rs) = ifSo (marked st (r .cell)) (line (r .name) (valueAt st (r .cell))) (linesOf line st rs)
 
--- the lines of the groups, one group after another
-unfoldable pub lines3D : List ℕ → List Group → List (List ℕ)
-lines3D st [] = []
-lines3D st (g ∷ gs) = linesOf (line3D (g .type) (g .subType)) st (g .rows) ++ lines3D st gs
+-- of a section
+abbrev pub linesIn : List ℕ → Section → List (List ℕ)
+linesIn st (of3D g) = linesOf (line3D (g .type) (g .subType)) st (g .rows)
+linesIn st (ofVideo rs) = linesOf lineVideo st rs
+
+-- of sections, one after another
+unfoldable pub linesAmong : List ℕ → List Section → List (List ℕ)
+linesAmong st [] = []
+linesAmong st (s ∷ ss) = linesIn st s ++ linesAmong st ss
 
 -- a line for each marked cell, in cell order
 unfoldable pub cellLines : List ℕ → List (List ℕ)
-cellLines st = lines3D st groups ++ linesOf lineVideo st videoRows
+cellLines st = linesAmong st sections
+
+-- "at most 2,568 bytes"
+abbrev pub mostListed : ℕ
+mostListed = 2568
 
 -- "The listing is key=value lines, the count in decimal without leading zeros, .."
 unfoldable pub listing : List ℕ → List ℕ

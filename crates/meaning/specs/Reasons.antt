@@ -66,20 +66,20 @@ NoneBefore g ws n = (i : ℕ) → i < n → (r : ℕ) → ¬ GivenAt g ws i r
 -- ---- the reader: reason r at place p
 
 -- "Given when" and "Place", for batch, grants and state as they were handed in
-pub data Reads (batch grants st : List ℕ) : ℕ → ℕ → Type 0 where
+pub data ReaderGives (batch grants st : List ℕ) : ℕ → ℕ → Type 0 where
   -- "state not 202 words or not well-formed"
-  bad-state : ¬ T (wellFormed st) → Reads batch grants st 1 0
+  bad-state : ¬ T (wellFormed st) → ReaderGives batch grants st 1 0
   -- "grant list breaks its rules"
-  bad-grants : T (wellFormed st) → ¬ T (grantsFine grants) → Reads batch grants st 2 0
+  bad-grants : T (wellFormed st) → ¬ T (grantsFine grants) → ReaderGives batch grants st 2 0
   -- 3 to 9, "words from the front": "the header", "the setting", "the word"
   at-word : {r p : ℕ} → T (wellFormed st) → T (grantsFine grants) → p < length batch → NoneBefore (termsOf grants) batch p
-      → GivenAt (termsOf grants) batch p r → Reads batch grants st r p
+      → GivenAt (termsOf grants) batch p r → ReaderGives batch grants st r p
   -- "the batch ends inside a packet": "batch length"
   ends-inside : T (wellFormed st) → T (grantsFine grants) → NoneBefore (termsOf grants) batch (length batch)
-      → 0 < positionAt batch (length batch) .left → Reads batch grants st 10 (length batch)
+      → 0 < positionAt batch (length batch) .left → ReaderGives batch grants st 10 (length batch)
   -- "success, with place the batch length"
   accepted : T (wellFormed st) → T (grantsFine grants) → NoneBefore (termsOf grants) batch (length batch)
-      → positionAt batch (length batch) .left ≡ 0 → Reads batch grants st 0 (length batch)
+      → positionAt batch (length batch) .left ≡ 0 → ReaderGives batch grants st 0 (length batch)
 
 -- ---- the writer, given room for so many words
 
@@ -93,24 +93,24 @@ abbrev pub CellFine : Terms → List ℕ → Cell → Type 0
 CellFine g st c = 0 < markAt st c → MayHold g c (valueAt st c)
 
 -- for state and grants as they were handed in
-pub data Writes (st grants : List ℕ) (room : ℕ) : ℕ → ℕ → Type 0 where
-  bad-state : ¬ T (wellFormed st) → Writes st grants room 1 0
-  bad-grants : T (wellFormed st) → ¬ T (grantsFine grants) → Writes st grants room 2 0
+pub data WriterGives (st grants : List ℕ) (room : ℕ) : ℕ → ℕ → Type 0 where
+  bad-state : ¬ T (wellFormed st) → WriterGives st grants room 1 0
+  bad-grants : T (wellFormed st) → ¬ T (grantsFine grants) → WriterGives st grants room 2 0
   -- "lowest such cell"
   not-writable : {c : ℕ} → T (wellFormed st) → T (grantsFine grants) → c < cells → ¬ CellFine (termsOf grants) st (cell c)
-      → ((d : ℕ) → d < c → CellFine (termsOf grants) st (cell d)) → Writes st grants room 12 c
+      → ((d : ℕ) → d < c → CellFine (termsOf grants) st (cell d)) → WriterGives st grants room 12 c
   -- "output shorter than needed"
   no-room : T (wellFormed st) → T (grantsFine grants) → ((c : ℕ) → c < cells → CellFine (termsOf grants) st (cell c))
-      → room < length (written st) → Writes st grants room 11 0
+      → room < length (written st) → WriterGives st grants room 11 0
   -- "success, with place .. words written"
   done : T (wellFormed st) → T (grantsFine grants) → ((c : ℕ) → c < cells → CellFine (termsOf grants) st (cell c))
-      → length (written st) ≤ room → Writes st grants room 0 (length (written st))
+      → length (written st) ≤ room → WriterGives st grants room 0 (length (written st))
 
 -- ---- the lister, given room for so many bytes
 
 -- for the state as it was handed in
-pub data Lists (st : List ℕ) (room : ℕ) : ℕ → ℕ → Type 0 where
-  bad-state : ¬ T (wellFormed st) → Lists st room 1 0
-  no-room : T (wellFormed st) → room < length (listing st) → Lists st room 11 0
+pub data ListerGives (st : List ℕ) (room : ℕ) : ℕ → ℕ → Type 0 where
+  bad-state : ¬ T (wellFormed st) → ListerGives st room 1 0
+  no-room : T (wellFormed st) → room < length (listing st) → ListerGives st room 11 0
   -- "success, with place .. bytes written"
-  done : T (wellFormed st) → length (listing st) ≤ room → Lists st room 0 (length (listing st))
+  done : T (wellFormed st) → length (listing st) ≤ room → ListerGives st room 0 (length (listing st))

@@ -17,6 +17,13 @@ use Rattle.meaning.specs.Words.{bits}
 abbrev pub cells : ℕ
 cells = 101
 
+-- of which the video registers have those from 84 on, to before 101
+abbrev pub firstVideo : ℕ
+firstVideo = 84
+
+abbrev pub endVideo : ℕ
+endVideo = 101
+
 -- the cell of a number
 abbrev pub cell : ℕ → Cell
 cell n = record { 0 = n }
@@ -158,20 +165,20 @@ memoryLocation v = eqb (bits 1 0 v) 0
 -- ---- the addresses of that column
 
 -- what a value holds: no address, or an address of a role
-pub data Held : Type 0 where
-  nothing : Held
-  address : ℕ → ℕ → Held
+pub data Content : Type 0 where
+  nothing : Content
+  address : ℕ → ℕ → Content
 
 -- "any", or a rule that speaks of no address
-abbrev pub noAddress : ℕ → Held
+abbrev pub noAddress : ℕ → Content
 noAddress v = nothing
 
 -- "data × 256 is a role 1 address"
-abbrev pub target : ℕ → Held
+abbrev pub target : ℕ → Content
 target v = address 1 (v * 256)
 
 -- "A scaler address is bits 28:4 kept in place, the rest 0"
-abbrev pub scaled : ℕ → ℕ → Held
+abbrev pub scaled : ℕ → ℕ → Content
 scaled role v = address role (bits 28 4 v * 16)
 
 -- ---- the table
@@ -181,7 +188,7 @@ pub record Register : Type 0 where
   pub width : ℕ
   pub clear : ℕ
   pub values : ℕ → Bool
-  pub holds : ℕ → Held
+  pub holds : ℕ → Content
 
 -- a row: its cell, the register's name (a sub-address in its group, or a video offset), and what the register may hold
 pub record Row (Name : Type 0) : Type 0 where
@@ -199,12 +206,17 @@ pub record Group : Type 0 where
 abbrev pub group : ℕ → ℕ → List (Row SubAddress) → Group
 group t u rs = record { type = t; subType = u; rows = rs }
 
+-- a section of the table: a group of 3D registers, or a row of video registers, whose offsets follow one another
+pub data Section : Type 0 where
+  of3D : Group → Section
+  ofVideo : List (Row VideoOffset) → Section
+
 -- a row: cell, name, must be clear, values, address. "A 3D value is the 24 data bits"
-abbrev pub row3D : ℕ → ℕ → ℕ → (ℕ → Bool) → (ℕ → Held) → Row SubAddress
+abbrev pub row3D : ℕ → ℕ → ℕ → (ℕ → Bool) → (ℕ → Content) → Row SubAddress
 row3D c a m f h = record { cell = cell c; name = record { 0 = a }; register = record { width = 24; clear = m; values = f; holds = h } }
 
 -- a video value is a word
-abbrev pub rowVideo : ℕ → ℕ → ℕ → (ℕ → Bool) → (ℕ → Held) → Row VideoOffset
+abbrev pub rowVideo : ℕ → ℕ → ℕ → (ℕ → Bool) → (ℕ → Content) → Row VideoOffset
 rowVideo c o m f h = record { cell = cell c; name = record { 0 = o }; register = record { width = 32; clear = m; values = f; holds = h } }
 
 -- 0 to 3: 01.00.3F, .50, .51, .52
@@ -234,10 +246,6 @@ sample n = group 0x02 (0x20 + n) (
     ∷ []
     )
 
--- "n is 0 to 15"
-unfoldable pub groups : List Group
-groups = targetGroup ∷ (map stage (from 0 16) ++ map sample (from 0 16))
-
 -- a scaler's seven registers: cells from c on, and the role of its addresses. 87 to 93 are 23E4, 23E8, 23EC, 23F0, 23F4, 23F8,
 -- 23FC, of role 2; 94 to 100 are "33E4 to 33FC", "as 87 to 93, role 3"
 unfoldable pub scaler : ℕ → ℕ → ℕ → List (Row VideoOffset)
@@ -251,13 +259,32 @@ scaler c o role =
     ∷ rowVideo (c + 6) (o + 0x3FC) 0xE000000C memoryLocation (scaled role)
     ∷ []
 
--- 84 to 100. "The regulator's copy of a video register is 2000h above the original; the second HQV is another 1000h up"
-unfoldable pub videoRows : List (Row VideoOffset)
-videoRows =
+-- 84 to 86: 2208, 220C, 2210. "The regulator's copy of a video register is 2000h above the original; the second HQV is another 1000h up"
+unfoldable pub overlay : List (Row VideoOffset)
+overlay =
     rowVideo 84 0x2208 0xF800F800 any noAddress
     ∷ rowVideo 85 0x220C 0xF800F800 any noAddress
     ∷ rowVideo 86 0x2210 0xFFE000FC alphaSelect noAddress
-    ∷ (scaler 87 0x2000 2 ++ scaler 94 0x3000 3)
+    ∷ []
+
+-- stage n, and sample n, as sections
+abbrev pub stageSection : ℕ → Section
+stageSection n = of3D (stage n)
+
+abbrev pub sampleSection : ℕ → Section
+sampleSection n = of3D (sample n)
+
+-- the groups of 01 and 02; "n is 0 to 15"
+abbrev pub sections3D : List Section
+sections3D = of3D targetGroup ∷ (map stageSection (from 0 16) ++ map sampleSection (from 0 16))
+
+-- the rows of video registers
+abbrev pub sectionsVideo : List Section
+sectionsVideo = ofVideo overlay ∷ ofVideo (scaler 87 0x2000 2) ∷ ofVideo (scaler 94 0x3000 3) ∷ []
+
+-- THE TABLE, in cell order
+unfoldable pub sections : List Section
+sections = sections3D ++ sectionsVideo
 
 -- ---- the register of a name, and of a cell
 
@@ -272,27 +299,43 @@ find is [] = Missing
 find is (r ∷ rs) = let more = find is rs in cond (is (r .name)) (At (r .cell)) more
 
 -- the same among the rows of the group of a type and sub-type
-unfoldable pub findAmong : ℕ → ℕ → SubAddress → List Group → Found
+unfoldable pub findAmong : ℕ → ℕ → SubAddress → List Section → Found
 findAmong t u a [] = Missing
-findAmong t u a (g ∷ gs) =
-    let more = findAmong t u a gs in
+findAmong t u a (of3D g ∷ ss) =
+    let more = findAmong t u a ss in
     cond (eqb t (g .type) && eqb u (g .subType)) (find (λ n. eqb (a .0) (n .0)) (g .rows)) more
+findAmong t u a (ofVideo rs ∷ ss) = findAmong t u a ss
 
 -- "Type, sub-type and sub-address together name a 3D register"
 unfoldable pub find3D : ℕ → ℕ → SubAddress → Found
-find3D t u a = findAmong t u a groups
+find3D t u a = findAmong t u a sections
+
+-- the first that is found
+abbrev pub firstFound : Found → Found → Found
+firstFound (At c) more = At c
+firstFound Missing more = more
+
+-- an offset among the rows of video registers
+unfoldable pub findOffset : VideoOffset → List Section → Found
+findOffset o [] = Missing
+findOffset o (of3D g ∷ ss) = findOffset o ss
+findOffset o (ofVideo rs ∷ ss) = let more = findOffset o ss in firstFound (find (λ n. eqb (o .0) (n .0)) rs) more
 
 -- a video register is named by its offset
 unfoldable pub findVideo : VideoOffset → Found
-findVideo o = find (λ n. eqb (o .0) (n .0)) videoRows
+findVideo o = findOffset o sections
 
 -- the register of the row that bears the cell's number
 unfoldable pub registerAmong : {Name : Type 0} → Cell → List (Row Name) → Register → Register
 registerAmong c [] other = other
 registerAmong c (r ∷ rs) other = let more = registerAmong c rs other in cond (eqb (c .0) (r .cell .0)) (r .register) more
 
--- what the register of a cell may hold; a number that is no cell has no register, and nothing asks for it
+-- the same among sections; a number that is no cell has no register, and nothing asks for it
+unfoldable pub registerIn : Cell → List Section → Register
+registerIn c [] = record { width = 0; clear = 0; values = any; holds = noAddress }
+registerIn c (of3D g ∷ ss) = registerAmong c (g .rows) (registerIn c ss)
+registerIn c (ofVideo rs ∷ ss) = registerAmong c rs (registerIn c ss)
+
+-- what the register of a cell may hold
 unfoldable pub registerAt : Cell → Register
-registerAt c =
-    registerAmong c (join (map (λ (g : Group). g .rows) groups))
-    (registerAmong c videoRows (record { width = 0; clear = 0; values = any; holds = noAddress }))
+registerAt c = registerIn c sections

@@ -3,7 +3,7 @@
 use mathlib.Core.Path.{_≡_}
 use mathlib.Core.Bool.{Bool, true, false, _&&_}
 use mathlib.Core.List.{List, [], _∷_, _++_}
-use Prim.Native.Nat.{ℕ, _+_}
+use Prim.Native.Nat.{ℕ, zero, suc, _+_, _*_}
 use lib.Dec.{leb, eqb}
 use lib.ListN.{length, getD, set, replicate}
 use Rattle.laws.specs.Lists.{All, every, from}
@@ -19,9 +19,13 @@ use Rattle.meaning.specs.Batch.{offset3D, named, Cut}
 
 -- ---- states
 
--- "A state is 202 words: 101 values, then 101 marks"
+-- "101 values, then 101 marks"
+abbrev pub cellWords : ℕ
+cellWords = 2 * cells
+
+-- "A state is 202 words": nothing stands behind the marks
 abbrev pub stateWords : ℕ
-stateWords = 202
+stateWords = cellWords
 
 -- of a cell: its value
 abbrev pub valueAt : List ℕ → Cell → ℕ
@@ -30,6 +34,15 @@ valueAt st c = getD st (c .0) 0
 -- and its mark
 abbrev pub markAt : List ℕ → Cell → ℕ
 markAt st c = getD st (cells + c .0) 0
+
+-- a mark that is not 0 marks its cell
+abbrev pub isMark : ℕ → Bool
+isMark zero = false
+isMark (suc m) = true
+
+-- the cell is marked
+abbrev pub marked : List ℕ → Cell → Bool
+marked st c = isMark (markAt st c)
 
 -- "each mark is 0 or 1 and an unmarked value is 0"
 unfoldable pub cellFormed : List ℕ → Cell → Bool
@@ -42,6 +55,22 @@ wellFormed st = eqb (length st) stateWords && every (λ n. cellFormed st (cell n
 -- "Empty: all 0"
 unfoldable pub empty : List ℕ
 empty = replicate stateWords 0
+
+-- ---- counts
+
+-- 1 for a cell that is chosen
+abbrev pub one : Bool → ℕ
+one true = 1
+one false = 0
+
+-- how many of the n cells from cell i on are chosen
+unfoldable pub countIn : (Cell → Bool) → ℕ → ℕ → ℕ
+countIn chosen i zero = 0
+countIn chosen i (suc n) = one (chosen (cell i)) + countIn chosen (suc i) n
+
+-- how many cells of a state are marked
+abbrev pub markedCells : List ℕ → ℕ
+markedCells st = countIn (marked st) 0 cells
 
 -- ---- writes
 

@@ -1,6 +1,6 @@
 -- 7. Writing: the exact words, and what the writer answers.
 -- Assumes nothing.
-use mathlib.Core.Bool.{Bool, _&&_, cond}
+use mathlib.Core.Bool.{Bool, true, false, _&&_, cond}
 use mathlib.Core.List.{List, [], _∷_, _++_}
 use Prim.Native.Nat.{ℕ, zero, suc, _+_, _*_, _^_}
 use lib.Dec.{leb, ltb, eqb}
@@ -13,10 +13,10 @@ use Rattle.meaning.specs.declared.VideoOffset.{VideoOffset}
 use Rattle.meaning.specs.declared.Found.{Found}
 use Rattle.meaning.specs.declared.Found.the-variants.{At, Missing}
 use Rattle.meaning.specs.declared.Answer.{Answer}
-use Rattle.meaning.specs.Registers.{cells, cell, Row, Group, groups, videoRows, registerAt}
+use Rattle.meaning.specs.Registers.{cells, cell, Row, Section, of3D, ofVideo, sections, registerAt}
 use Rattle.meaning.specs.Grants.{Terms, termsOf, grantsFine}
 use Rattle.meaning.specs.Batch.{offset3D}
-use Rattle.meaning.specs.State.{valueAt, markAt, wellFormed}
+use Rattle.meaning.specs.State.{valueAt, markAt, marked, one, wellFormed}
 use Rattle.meaning.specs.Answers.{badState, badGrants, noRoom, notWritable, success, answer, provided, settle}
 use Rattle.meaning.specs.Reader.{valueReason}
 
@@ -30,38 +30,78 @@ headerWord n o = n * 2 ^ 16 + o
 abbrev pub settingWord : ℕ → ℕ → ℕ
 settingWord t u = u * 2 ^ 24 + t * 2 ^ 16
 
--- x goes in front if the mark is not 0
-abbrev pub ifMarked {ℓ} : {A : Type ℓ} → ℕ → A → List A → List A
-ifMarked zero x xs = xs
-ifMarked (suc m) x xs = x ∷ xs
+-- x goes in front where the test is true
+abbrev pub ifSo {ℓ} : {A : Type ℓ} → Bool → A → List A → List A
+ifSo true x xs = x ∷ xs
+ifSo false x xs = xs
 
--- "parameters ascending": of the marked cells among a group's rows
-unfoldable pub parameters : List ℕ → List (Row SubAddress) → List ℕ
-parameters st [] = []
-parameters st (r ∷ rs) = ifMarked (markAt st (r .cell)) (r .name .0 * 2 ^ 24 + valueAt st (r .cell)) (parameters st rs)
+-- "parameters ascending": of the chosen cells among a group's rows
+unfoldable pub parameters : (Cell → Bool) → List ℕ → List (Row SubAddress) → List ℕ
+parameters chosen st [] = []
+parameters chosen st (r ∷ rs) = ifSo (chosen (r .cell)) (r .name .0 * 2 ^ 24 + valueAt st (r .cell)) (parameters chosen st rs)
 
 -- "one 3D packet for each type and sub-type with a marked cell": none for a group without a parameter
-abbrev pub packetOf : ℕ → List ℕ → List (List ℕ) → List (List ℕ)
-packetOf s [] more = more
-packetOf s (p ∷ ps) more = (headerWord (length (s ∷ p ∷ ps)) offset3D ∷ s ∷ p ∷ ps) ∷ more
-
--- of groups, in cell order
-unfoldable pub packets3D : List ℕ → List Group → List (List ℕ)
-packets3D st [] = []
-packets3D st (g ∷ gs) = packetOf (settingWord (g .type) (g .subType)) (parameters st (g .rows)) (packets3D st gs)
+abbrev pub packet3DOf : ℕ → List ℕ → List (List ℕ)
+packet3DOf s [] = []
+packet3DOf s (p ∷ ps) = (headerWord (length (s ∷ p ∷ ps)) offset3D ∷ s ∷ p ∷ ps) ∷ []
 
 -- "and one packet of n = 1 for each marked video cell"
-unfoldable pub packetsVideo : List ℕ → List (Row VideoOffset) → List (List ℕ)
-packetsVideo st [] = []
-packetsVideo st (r ∷ rs) = ifMarked (markAt st (r .cell)) (headerWord 1 (r .name .0) ∷ valueAt st (r .cell) ∷ []) (packetsVideo st rs)
+unfoldable pub packetsVideo : (Cell → Bool) → List ℕ → List (Row VideoOffset) → List (List ℕ)
+packetsVideo chosen st [] = []
+packetsVideo chosen st (r ∷ rs) =
+    ifSo (chosen (r .cell)) (headerWord 1 (r .name .0) ∷ valueAt st (r .cell) ∷ []) (packetsVideo chosen st rs)
 
--- 3D packets, then video packets
+-- of a section
+abbrev pub packetsIn : (Cell → Bool) → List ℕ → Section → List (List ℕ)
+packetsIn chosen st (of3D g) = packet3DOf (settingWord (g .type) (g .subType)) (parameters chosen st (g .rows))
+packetsIn chosen st (ofVideo rs) = packetsVideo chosen st rs
+
+-- of sections, one after another
+unfoldable pub packetsAmong : (Cell → Bool) → List ℕ → List Section → List (List ℕ)
+packetsAmong chosen st [] = []
+packetsAmong chosen st (s ∷ ss) = packetsIn chosen st s ++ packetsAmong chosen st ss
+
+-- the words for a chosen set of cells of a state, "in cell order"
+unfoldable pub wordsFor : (Cell → Bool) → List ℕ → List ℕ
+wordsFor chosen st = join (packetsAmong chosen st sections)
+
+-- the packets that are written: for all marked cells
 unfoldable pub packetsOf : List ℕ → List (List ℕ)
-packetsOf st = packets3D st groups ++ packetsVideo st videoRows
+packetsOf st = packetsAmong (marked st) st sections
 
 -- the words that are written
 unfoldable pub written : List ℕ → List ℕ
-written st = join (packetsOf st)
+written st = wordsFor (marked st) st
+
+-- ---- how many words they are
+
+-- "It needs at most 184 words"
+abbrev pub mostWritten : ℕ
+mostWritten = 184
+
+-- how many cells among rows are chosen
+unfoldable pub countRows : {Name : Type 0} → (Cell → Bool) → List (Row Name) → ℕ
+countRows chosen [] = 0
+countRows chosen (r ∷ rs) = one (chosen (r .cell)) + countRows chosen rs
+
+-- a 3D packet of so many parameters: header and setting come with the first
+unfoldable pub packetNeed : ℕ → ℕ
+packetNeed zero = 0
+packetNeed (suc n) = 2 + suc n
+
+-- of a section
+abbrev pub needIn : (Cell → Bool) → Section → ℕ
+needIn chosen (of3D g) = packetNeed (countRows chosen (g .rows))
+needIn chosen (ofVideo rs) = 2 * countRows chosen rs
+
+-- of sections
+unfoldable pub needAmong : (Cell → Bool) → List Section → ℕ
+needAmong chosen [] = 0
+needAmong chosen (s ∷ ss) = needIn chosen s + needAmong chosen ss
+
+-- the words that a chosen set of cells needs
+unfoldable pub needFor : (Cell → Bool) → ℕ
+needFor chosen = needAmong chosen sections
 
 -- ---- 12: "a marked cell holds a value that 7, 8 or 9 would refuse, or a 3D value of 2^24 or more"
 

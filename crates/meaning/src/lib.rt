@@ -1,4 +1,58 @@
-// The types that definitions and code share. What they mean is in specs/; there is no function here.
+// The types that definitions and code share, and the code's names for sizes and reasons. What they mean is in specs/; there is no function
+// here.
+
+// How many cells there are, and which of them are video registers': those from FIRST_VIDEO on, to before END_VIDEO.
+pub const CELLS: usize = 101;
+
+pub const FIRST_VIDEO: usize = 84;
+
+pub const END_VIDEO: usize = 101;
+
+// The words of a state's values and marks, and of a whole state.
+pub const CELL_WORDS: usize = 2 * CELLS;
+
+pub const STATE_WORDS: usize = CELL_WORDS;
+
+// The most words that a state is written in, and the most bytes that it is listed in.
+pub const MOST_WRITTEN: usize = 184;
+
+pub const MOST_LISTED: usize = 2568;
+
+// The most bytes that a buffer of a C call has.
+pub const MOST_BYTES: usize = 65536;
+
+// The most grants that a list has.
+pub const MOST_GRANTS: usize = 64;
+
+// The reasons that code answers, as specs/Answers names them.
+pub const SUCCESS: u32 = 0;
+
+pub const BAD_STATE: u32 = 1;
+
+pub const BAD_GRANTS: u32 = 2;
+
+pub const BAD_OFFSET: u32 = 3;
+
+pub const BAD_COUNT: u32 = 4;
+
+pub const BAD_SETTING: u32 = 5;
+
+pub const NO_REGISTER: u32 = 6;
+
+pub const BIT_SET: u32 = 7;
+
+pub const BAD_VALUE: u32 = 8;
+
+pub const NOT_GRANTED: u32 = 9;
+
+pub const ENDS_INSIDE: u32 = 10;
+
+pub const NO_ROOM: u32 = 11;
+
+pub const NOT_WRITABLE: u32 = 12;
+
+// And the one that the C calls answer by themselves, as the number that they answer: place 0.
+pub const BAD_BUFFER: u64 = 13;
 
 // The three kinds of number that must not be exchanged: a cell of the state,
 pub struct Cell(pub usize);
@@ -9,8 +63,8 @@ pub struct SubAddress(pub u32);
 // and the byte offset of a video register.
 pub struct VideoOffset(pub u32);
 
-// A state as the code holds it: 101 values, then 101 marks.
-pub type State = [u32; 202];
+// A state as the code holds it: the values, then the marks.
+pub type State = [u32; STATE_WORDS];
 
 // What a name names: the cell of a register, or no register of the table.
 pub enum Found {

@@ -1,3 +1,2 @@
+pub mod Headed
 pub mod Packets
-pub mod Settings
-pub mod Headers

@@ -4,6 +4,7 @@ use mathlib.Core.Path.{_≡_, refl, sym, ap, _∙_}
 use mathlib.Core.Bool.{cond}
 use mathlib.Core.List.{List, [], _∷_, _++_}
 use Prim.Native.Nat.{ℕ, zero, suc, _+_, _-_, _≤_, _<_, min}
+use native.Mathlib.Numerals.{add-one}
 use native.Mathlib.Omega.{arith}
 use native.Mathlib.Decide.{decLt}
 use borrow.Author.Tests.{le-leb, lt-leb}
@@ -25,6 +26,7 @@ use Rattle.meaning.proofs.Stretches.{afterAll}
 use Rattle.bodies.specs.Passes.{Passed, passed, answerOf, orElse, stored, bodyFrom}
 use Rattle.bodies.proofs.Bodies.{else-on, else-stop}
 use Rattle.packets.specs.Packets.{headed, upTo, packetFrom, ends, packetsFrom}
+use Rattle.packets.proofs.Headed.{Comes}
 
 -- ---- a packet, from what was read of it
 
@@ -48,34 +50,27 @@ at-hand ws at n l end e =
           rw (m, take-all (length ws) ws (omega arith)) (sym (take-all n (drop (at + 1) ws) (omega (arith, length-drop (at + 1) ws))))
     ]
 
-module _ (g : Terms) (ws : List ℕ) (at : ℕ) (st : List ℕ) (l : at < length ws) (end : ℕ) (is-end : end ≡ min (at + 1 + count (getD ws at 0)) (length ws)) where
+-- a header h at a place, and the words of its packet up to another
+module _ (g : Terms) (ws : List ℕ) (at : ℕ) (st : List ℕ) (l : at < length ws) {h : ℕ} (is-header : h ≡ getD ws at 0) (end : ℕ) (is-end : end ≡ min (at + 1 + count h) (length ws)) where
   abbrev read : Passed
-  read = headed g at (getD ws at 0) (slice (at + 1) end ws) st
+  read = headed g at h (slice (at + 1) end ws) st
 
-  packet-is : packetFrom g at (drop at ws) st ≡ upTo (at + 1 + count (getD ws at 0)) read
+  packet-is : packetFrom g at (drop at ws) st ≡ upTo (at + 1 + count h) read
   unfolding packetFrom
-  packet-is =
-      let next : at + 1 ≡ suc at = omega arith in
-      ap (λ (x : List ℕ). packetFrom g at x st) (rest ws at l)
-      ∙ ap (λ (x : ℕ). upTo (x + count (getD ws at 0)) (headed g at (getD ws at 0) (take (count (getD ws at 0)) (drop (at + 1) ws)) st)) (sym next)
-      ∙ ap (λ (x : List ℕ). upTo (at + 1 + count (getD ws at 0)) (headed g at (getD ws at 0) x st)) (sym (at-hand ws at (count (getD ws at 0)) l end is-end))
+  packet-is = rw (rest ws at l, ← is-header, at-hand ws at (count h) l end is-end, add-one at)
 
   module _ {a : Answer} {left : List ℕ} (ea : a ≡ answerOf read) (el : left ≡ read .state) where
     reason-is : a .reason ≡ read .reason
     reason-is = ap (λ (x : Answer). x .reason) ea
 
     -- a word of it is refused
-    pub packet-refused : (a .reason ≡ 0 → ⊥) → (a ≡ answerOf (packetFrom g at (drop at ws) st)) × (left ≡ packetFrom g at (drop at ws) st .state)
-    packet-refused n =
-        let same = packet-is ∙ else-stop (read .reason) (read .place) (read .state) _ (λ z. n (reason-is ∙ z)) in
-        (ea ∙ sym (ap answerOf same), el ∙ sym (ap (λ (x : Passed). x .state) same))
+    pub packet-refused : (a .reason ≡ 0 → ⊥) → Comes a left (packetFrom g at (drop at ws) st)
+    packet-refused n = rw (packet-is ∙ else-stop (read .reason) (read .place) (read .state) _ (λ z. n (reason-is ∙ z))) (ea, el)
 
     -- none is
-    pub packet-passed : a .reason ≡ 0 → {p : ℕ} → p ≡ at + 1 + count (getD ws at 0)
-        → (record { reason = 0; place = p } ≡ answerOf (packetFrom g at (drop at ws) st)) × (left ≡ packetFrom g at (drop at ws) st .state)
-    packet-passed z e =
-        let same = packet-is ∙ else-on (read .place) (read .state) (sym reason-is ∙ z) in
-        (ap (answer success) e ∙ sym (ap answerOf same), el ∙ sym (ap (λ (x : Passed). x .state) same))
+    pub packet-passed : a .reason ≡ 0 → {p : ℕ} → p ≡ at + 1 + count h
+        → Comes (record { reason = 0; place = p }) left (packetFrom g at (drop at ws) st)
+    packet-passed z e = rw (packet-is ∙ else-on (read .place) (read .state) (sym reason-is ∙ z)) (ap (answer success) e, el)
 
 -- ---- words from a position on
 
@@ -175,17 +170,17 @@ tail-ahead g ws i h left l =
 
 module _ (g : Terms) (ws : List ℕ) (target : Passed) (st : List ℕ) (i : ℕ) (inv : ahead g i ws st ≡ target) where
   -- all is read
-  pub all-read : i ≡ length ws → passed success i st ≡ target
+  pub all-read : {p : ℕ} → p ≡ length ws → i ≡ length ws → passed success p st ≡ target
   unfolding ahead packetsFrom
-  all-read e =
+  all-read is-end e =
       let inside : i ≤ length ws = omega arith in
       let none : length ws ≤ i = omega arith in
-      let rest = rw (le-leb i (length ws) inside, drop-of-length-le ws none) at inv in rest
+      ap (λ (x : ℕ). passed success x st) (is-end ∙ sym e) ∙ (rw (le-leb i (length ws) inside, drop-of-length-le ws none) at inv)
 
   -- the last packet is not whole
-  pub not-whole : length ws < i → passed endsInside (length ws) st ≡ target
+  pub not-whole : {p : ℕ} → p ≡ length ws → length ws < i → passed endsInside p st ≡ target
   unfolding ahead
-  not-whole l = let rest = rw (lt-leb i (length ws) l) at inv in rest
+  not-whole is-end l = ap (λ (x : ℕ). passed endsInside x st) is-end ∙ (rw (lt-leb i (length ws) l) at inv)
 
   module _ (l : i < length ws) {a : Answer} {left : List ℕ} (ea : a ≡ answerOf (packetFrom g i (drop i ws) st)) (el : left ≡ packetFrom g i (drop i ws) st .state) where
     abbrev h : ℕ
@@ -212,7 +207,7 @@ module _ (g : Terms) (ws : List ℕ) (target : Passed) (st : List ℕ) (i : ℕ)
     a-reason : a .reason ≡ b .reason
     a-reason = ap (λ (x : Answer). x .reason) ea ∙ ap (λ (x : Passed). x .reason) packet-up ∙ reason-up (b .reason) refl
 
-    pub read-stop : (a .reason ≡ 0 → ⊥) → (a ≡ answerOf target) × (left ≡ target .state)
+    pub read-stop : (a .reason ≡ 0 → ⊥) → Comes a left target
     read-stop n =
         let m : b .reason ≡ 0 → ⊥ = λ z. n (a-reason ∙ z) in
         let same : packetFrom g i (drop i ws) st ≡ target =

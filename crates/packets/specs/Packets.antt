@@ -1,35 +1,16 @@
--- What reading packets comes to: the header of a run, one packet, and packets one after another. Places are counted from a first one.
+-- What reading packets comes to: one packet, and packets one after another. Places are counted from a first one.
 -- Assumes nothing.
-use mathlib.Core.Bool.{_&&_, cond}
 use mathlib.Core.List.{List, [], _∷_}
-use Prim.Native.Nat.{ℕ, zero, suc, _+_, _-_, _/_, _%_}
-use lib.Dec.{leb, eqb}
+use Prim.Native.Nat.{ℕ, zero, suc, _+_}
 use lib.ListN.{take}
-use Rattle.laws.specs.Tests.{within}
-use Rattle.meaning.specs.declared.VideoOffset.{VideoOffset}
 use Rattle.meaning.specs.declared.Kind.{Kind}
 use Rattle.meaning.specs.Words.{count}
-use Rattle.meaning.specs.Registers.{cell}
 use Rattle.meaning.specs.Grants.{Terms}
 use Rattle.meaning.specs.State.{applyAll}
 use Rattle.meaning.specs.Positions.{kindOf, nextKind, nextLeft, writeAt}
-use Rattle.meaning.specs.Answers.{badOffset, badCount, endsInside, success}
-use Rattle.meaning.specs.Reader.{unless, headerReason, judge}
+use Rattle.meaning.specs.Answers.{endsInside, success}
+use Rattle.meaning.specs.Reader.{headerReason, judge}
 use Rattle.bodies.specs.Passes.{Passed, passed, orElse, bodyFrom}
-use Rattle.packets.specs.declared.ScalerOffset.{ScalerOffset}
-
--- ---- the header of a run
-
--- 3 and 4 of n words from so many bytes behind the first of a row of video registers on
-unfoldable pub runReason : ℕ → ℕ → ℕ → ℕ
-runReason distance n row = unless (eqb (distance % 4) 0) badOffset (unless (leb 1 n && leb (distance / 4 + n) row) badCount success)
-
--- where an offset stands among the registers of a scaler; that of neither is told as one between two registers
-unfoldable pub scalerAt : VideoOffset → ScalerOffset
-scalerAt o =
-    cond (within 0x23E4 0x23FC (o .0)) (record { base = cell 87; role = 2; distance = o .0 - 0x23E4 })
-    (cond (within 0x33E4 0x33FC (o .0)) (record { base = cell 94; role = 3; distance = o .0 - 0x33E4 })
-    (record { base = cell 87; role = 2; distance = 1 }))
 
 -- ---- one packet
 

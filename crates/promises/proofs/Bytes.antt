@@ -13,7 +13,7 @@ use Rattle.meaning.specs.Grants.{termsOf}
 use Rattle.meaning.specs.Answers.{success, settle}
 use Rattle.meaning.specs.Reader.{readAnswer, readLeaves}
 use Rattle.meaning.proofs.Exactly.{accepted-cut}
-use Rattle.meaning.proofs.Calls.{Byte, words-small, left-small, words-over}
+use Rattle.meaning.proofs.Exported.{Byte, words-small, left-small, words-over}
 use Rattle.irangelda.proofs.Buffers.{over-all, length-leaves}
 
 -- the bytes of words are bytes

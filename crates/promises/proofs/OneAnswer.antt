@@ -9,23 +9,22 @@ use native.Mathlib.Omega.{arith}
 use denote.Ref.{now}
 use Rattle.meaning.specs.Grants.{Terms}
 use Rattle.grants.proofs.Keeping.{part-some, kept-some}
-use Rattle.verdicts.specs.Scalers.{first}
+use Rattle.rows.specs.Scalers.{first}
 use Rattle.fields.proofs.count.Reads as count
 use Rattle.fields.proofs.offset.Reads as offset
 use Rattle.fields.proofs.sub_type.Reads as sub-type
 use Rattle.fields.proofs.sub_address.Reads as sub-address
 use Rattle.fields.proofs.data.Reads as data-bits
-use Rattle.values.proofs.must_be_clear.Reads as must-be-clear
-use Rattle.values.proofs.alpha_constants.Reads as alpha-constants
-use Rattle.values.proofs.location.Reads as location
-use Rattle.values.proofs.bytes_per_pixel.Reads as bytes-per-pixel
-use Rattle.values.proofs.format_byte.Reads as format-byte
-use Rattle.values.proofs.levels.Reads as levels
-use Rattle.values.proofs.filters.Reads as filters
-use Rattle.values.proofs.mapping.Reads as mapping
-use Rattle.values.proofs.alpha_select.Reads as alpha-select
-use Rattle.values.proofs.memory_location.Reads as memory-location
-use Rattle.registers.proofs.register_3d.Reads as register-3d
+use Rattle.rules.proofs.must_be_clear.Reads as must-be-clear
+use Rattle.rules.proofs.alpha_constants.Reads as alpha-constants
+use Rattle.rules.proofs.location.Reads as location
+use Rattle.rules.proofs.bytes_per_pixel.Reads as bytes-per-pixel
+use Rattle.rules.proofs.format_byte.Reads as format-byte
+use Rattle.rules.proofs.levels.Reads as levels
+use Rattle.rules.proofs.filters.Reads as filters
+use Rattle.rules.proofs.mapping.Reads as mapping
+use Rattle.rules.proofs.alpha_select.Reads as alpha-select
+use Rattle.rules.proofs.memory_location.Reads as memory-location
 use Rattle.registers.proofs.name_of.Reads as name-of
 use Rattle.registers.proofs.offset_of.Reads as offset-of
 use Rattle.words.proofs.word.Reads as word
@@ -38,32 +37,40 @@ use Rattle.states.proofs.well_formed.Reads as well-formed
 use Rattle.states.proofs.marked_between.Reads as marked-between
 use Rattle.grants.proofs.part_of.Reads as part-of
 use Rattle.grants.proofs.covered.Reads as covered
-use Rattle.verdicts.proofs.alpha_constants_reason.Reads as alpha-constants-reason
-use Rattle.verdicts.proofs.target_address_reason.Reads as target-address-reason
-use Rattle.verdicts.proofs.location_reason.Reads as location-reason
-use Rattle.verdicts.proofs.format_reason.Reads as format-reason
-use Rattle.verdicts.proofs.stage_reason.Reads as stage-reason
-use Rattle.verdicts.proofs.levels_reason.Reads as levels-reason
-use Rattle.verdicts.proofs.filters_reason.Reads as filters-reason
-use Rattle.verdicts.proofs.mapping_reason.Reads as mapping-reason
-use Rattle.verdicts.proofs.overlay_reason.Reads as overlay-reason
-use Rattle.verdicts.proofs.alpha_select_reason.Reads as alpha-select-reason
-use Rattle.verdicts.proofs.deinterlace_reason.Reads as deinterlace-reason
-use Rattle.verdicts.proofs.sub_picture_reason.Reads as sub-picture-reason
-use Rattle.verdicts.proofs.first_address_reason.Reads as first-address-reason
-use Rattle.verdicts.proofs.address_reason.Reads as address-reason
-use Rattle.verdicts.proofs.destination_stride_reason.Reads as destination-stride-reason
-use Rattle.verdicts.proofs.source_stride_reason.Reads as source-stride-reason
-use Rattle.emitter.specs.declared.Need.{Need}
-use Rattle.emitter.proofs.needed.Reads as needed
-use Rattle.grants.proofs.keep.Reads as keep
+use Rattle.rows.proofs.alpha_constants_reason.Reads as alpha-constants-reason
+use Rattle.rows.proofs.target_address_reason.Reads as target-address-reason
+use Rattle.rows.proofs.location_reason.Reads as location-reason
+use Rattle.rows.proofs.format_reason.Reads as format-reason
+use Rattle.rows.proofs.stage_reason.Reads as stage-reason
+use Rattle.rows.proofs.levels_reason.Reads as levels-reason
+use Rattle.rows.proofs.filters_reason.Reads as filters-reason
+use Rattle.rows.proofs.mapping_reason.Reads as mapping-reason
+use Rattle.rows.proofs.overlay_reason.Reads as overlay-reason
+use Rattle.rows.proofs.alpha_select_reason.Reads as alpha-select-reason
+use Rattle.rows.proofs.deinterlace_reason.Reads as deinterlace-reason
+use Rattle.rows.proofs.sub_picture_reason.Reads as sub-picture-reason
+use Rattle.rows.proofs.first_address_reason.Reads as first-address-reason
+use Rattle.rows.proofs.address_reason.Reads as address-reason
+use Rattle.rows.proofs.destination_stride_reason.Reads as destination-stride-reason
+use Rattle.rows.proofs.source_stride_reason.Reads as source-stride-reason
+use Rattle.headers.proofs.Groups.{some-setting}
+use Rattle.headers.proofs.header_of.Reads as header-of
+use Rattle.headers.proofs.group_of.Reads as group-of
+use Rattle.judging.proofs.judge_parameter.Reads as judge-parameter
+use Rattle.judging.proofs.overlay_reason.Reads as overlay-word
+use Rattle.judging.proofs.scaler_reason.Reads as scaler-word
+use Rattle.cells.proofs.fine.Reads as fine
+use Rattle.needs.specs.declared.Need.{Need}
+use Rattle.needs.proofs.needed.Reads as needed
+use Rattle.lines.proofs.put_line_3d.Reads as put-line-3d
+use Rattle.lines.proofs.put_line_video.Reads as put-line-video
+use Rattle.keeping.proofs.keep.Reads as keep
 use Rattle.reader.proofs.read.Reads as read
+use Rattle.search.proofs.lowest_bad.Reads as lowest-bad
 use Rattle.writer.proofs.write.Reads as write
 use Rattle.lister.proofs.list.Reads as list
 use Rattle.emitter.proofs.emit.Reads as emit
-use Rattle.bodies.proofs.take_target.Reads as take-target
-use Rattle.bodies.proofs.take_stage.Reads as take-stage
-use Rattle.bodies.proofs.take_sample.Reads as take-sample
+use Rattle.bodies.proofs.take_parameters.Reads as take-parameters
 use Rattle.bodies.proofs.take_overlay.Reads as take-overlay
 use Rattle.bodies.proofs.take_scaler.Reads as take-scaler
 use Rattle.packets.proofs.read_packet.Reads as read-packet
@@ -97,7 +104,7 @@ sub-address-one κs a r r' s s' p q = one-answer p q
 pub data-bits-one : Determined data-bits.Learnt
 data-bits-one κs a r r' s s' p q = one-answer p q
 
--- ---- values
+-- ---- rules
 
 pub must-be-clear-one : Determined must-be-clear.Learnt
 must-be-clear-one κs a r r' s s' p q = one-answer p q
@@ -131,9 +138,6 @@ memory-location-one κs a r r' s s' p q = one-answer p q
 
 -- ---- registers
 
-pub register-3d-one : Determined register-3d.Learnt
-register-3d-one κs a r r' s s' p q = one-answer p q
-
 pub name-of-one : Determined name-of.Learnt
 name-of-one κs a r r' s s' p q = one-answer p q
 
@@ -165,7 +169,7 @@ part-of-one κs a r r' s s' p q = one-answer p q
 pub covered-one : Determined covered.Learnt
 covered-one κs a r r' s s' p q = one-answer p q
 
--- ---- verdicts
+-- ---- rows
 
 -- a contract that holds for any terms is taken at those without a grant; one that asks what is kept, at terms that are kept so
 abbrev ungranted : Terms
@@ -225,10 +229,43 @@ destination-stride-reason-one κs a r r' s s' p q = one-answer (p ungranted 87 2
 pub source-stride-reason-one : Determined source-stride-reason.Learnt
 source-stride-reason-one κs a r r' s s' p q = one-answer (p ungranted 87 2 first) (q ungranted 87 2 first)
 
--- ---- emitter
+-- ---- headers, and words by their position
+
+pub header-of-one : Determined header-of.Learnt
+header-of-one κs a r r' s s' p q = one-answer p q
+
+pub group-of-one : Determined group-of.Learnt
+group-of-one κs a r r' s s' p q = one-answer p q
+
+pub judge-parameter-one : Determined judge-parameter.Learnt
+judge-parameter-one κs a r r' s s' p q =
+    let k = part-some 1 (now (a .1 .1 .1 .0)) (now (a .1 .1 .1 .1 .0)) (a .1 .1 .1 .1 .1 .0) in
+    one-answer (p (k .0) (k .1)) (q (k .0) (k .1))
+
+pub overlay-word-one : Determined overlay-word.Learnt
+overlay-word-one κs a r r' s s' p q = one-answer (p ungranted) (q ungranted)
+
+pub scaler-word-one : Determined scaler-word.Learnt
+scaler-word-one κs a r r' s s' p q =
+    let k = part-some 2 (now (a .1 .1 .0)) (now (a .1 .1 .1 .0)) (a .1 .1 .1 .1 .0) in
+    one-answer (p (k .0) 87 2 first (k .1)) (q (k .0) 87 2 first (k .1))
+
+-- ---- cells, the lowest bad one, and words that are needed
+
+-- the cell that its callers must hand it is one of the row
+pub fine-one : (κs : _) (a : _) (r r' : _) (s s' : _) → fine.Asked κs a → fine.Learnt κs a r s → fine.Learnt κs a r' s' → r ≡ r'
+fine-one κs a r r' s s' asked p q =
+    let row = asked .1 .0 in
+    let k = part-some (row .0) (now (a .1 .1 .1 .0)) (now (a .1 .1 .1 .1 .0)) (a .1 .1 .1 .1 .1 .0) in
+    one-answer (p (k .0) (row .0) (row .1) (λ other. k .1)) (q (k .0) (row .0) (row .1) (λ other. k .1))
+
+pub lowest-bad-one : Determined lowest-bad.Learnt
+lowest-bad-one κs a r r' s s' p q =
+    let k = kept-some (now (a .1 .0)) (now (a .1 .1 .0)) (now (a .1 .1 .1 .0)) in
+    one-answer (p (k .0) (k .1)) (q (k .0) (k .1))
 
 abbrev need : ℕ → ℕ → Need
-need x y = record { «in_3d» = x; «in_all» = y }
+need x y = record { «before_video» = x; «in_all» = y }
 
 pub needed-one : Determined needed.Learnt
 needed-one κs a r r' s s' p q = ap₂ need (one-answer (p .0) (q .0)) (one-answer (p .1) (q .1))
@@ -261,16 +298,21 @@ list-one κs a r r' s s' p q = (one-answer (p .0) (q .0), one-answer (p .1) (q .
 pub emit-one : (κs : _) (a : _) (r r' : _) (s s' : _) → emit.Learnt κs a r s → emit.Learnt κs a r' s' → now (s .1 .0) ≡ now (s' .1 .0)
 emit-one κs a r r' s s' p q = one-answer p q
 
-pub take-target-one : (κs : _) (a : _) (r r' : _) (s s' : _) → take-target.Learnt κs a r s → take-target.Learnt κs a r' s' → (r ≡ r') × (now (s .1 .1 .1 .1 .1 .1 .1 .0) ≡ now (s' .1 .1 .1 .1 .1 .1 .1 .0))
-take-target-one κs a r r' s s' p q =
-    let k = part-some 1 (now (a .1 .1 .1 .1 .0)) (now (a .1 .1 .1 .1 .1 .0)) (a .1 .1 .1 .1 .1 .1 .0) in
-    (one-answer (p .0 (k .0) (k .1)) (q .0 (k .0) (k .1)), one-answer (p .1 (k .0) (k .1)) (q .1 (k .0) (k .1)))
+pub put-line-3d-one : (κs : _) (a : _) (r r' : _) (s s' : _) → put-line-3d.Learnt κs a r s → put-line-3d.Learnt κs a r' s' → now (s .1 .0) ≡ now (s' .1 .0)
+put-line-3d-one κs a r r' s s' p q = one-answer p q
 
-pub take-stage-one : (κs : _) (a : _) (r r' : _) (s s' : _) → take-stage.Learnt κs a r s → take-stage.Learnt κs a r' s' → (r ≡ r') × (now (s .1 .1 .1 .1 .0) ≡ now (s' .1 .1 .1 .1 .0))
-take-stage-one κs a r r' s s' p q = (one-answer (p .0 ungranted) (q .0 ungranted), one-answer (p .1 ungranted) (q .1 ungranted))
+pub put-line-video-one : (κs : _) (a : _) (r r' : _) (s s' : _) → put-line-video.Learnt κs a r s → put-line-video.Learnt κs a r' s' → now (s .1 .0) ≡ now (s' .1 .0)
+put-line-video-one κs a r r' s s' p q = one-answer p q
 
-pub take-sample-one : (κs : _) (a : _) (r r' : _) (s s' : _) → take-sample.Learnt κs a r s → take-sample.Learnt κs a r' s' → (r ≡ r') × (now (s .1 .1 .1 .1 .0) ≡ now (s' .1 .1 .1 .1 .0))
-take-sample-one κs a r r' s s' p q = (one-answer (p .0 ungranted) (q .0 ungranted), one-answer (p .1 ungranted) (q .1 ungranted))
+-- the group that its callers must hand it is one of the table, and some setting names it
+pub take-parameters-one : (κs : _) (a : _) (r r' : _) (s s' : _) → take-parameters.Asked κs a → take-parameters.Learnt κs a r s → take-parameters.Learnt κs a r' s'
+    → (r ≡ r') × (now (s .1 .1 .1 .1 .1 .1 .1 .0) ≡ now (s' .1 .1 .1 .1 .1 .1 .1 .0))
+take-parameters-one κs a r r' s s' asked p q =
+    let named = some-setting (a .1 .1 .1 .0) (asked .1 .0) in
+    let k = part-some 1 (now (a .1 .1 .1 .1 .0)) (now (a .1 .1 .1 .1 .1 .0)) (a .1 .1 .1 .1 .1 .1 .0) in (
+      one-answer (p .0 (k .0) (named .0) (named .1) (k .1)) (q .0 (k .0) (named .0) (named .1) (k .1)),
+      one-answer (p .1 (k .0) (named .0) (named .1) (k .1)) (q .1 (k .0) (named .0) (named .1) (k .1)),
+    )
 
 pub take-overlay-one : (κs : _) (a : _) (r r' : _) (s s' : _) → take-overlay.Learnt κs a r s → take-overlay.Learnt κs a r' s' → (r ≡ r') × (now (s .1 .1 .1 .1 .0) ≡ now (s' .1 .1 .1 .1 .0))
 take-overlay-one κs a r r' s s' p q = (one-answer (p .0 ungranted) (q .0 ungranted), one-answer (p .1 ungranted) (q .1 ungranted))
@@ -279,7 +321,7 @@ take-overlay-one κs a r r' s s' p q = (one-answer (p .0 ungranted) (q .0 ungran
 pub take-scaler-one : (κs : _) (a : _) (r r' : _) (s s' : _) → take-scaler.Asked κs a → take-scaler.Learnt κs a r s → take-scaler.Learnt κs a r' s'
     → (r ≡ r') × (now (s .1 .1 .1 .1 .1 .1 .1 .1 .0) ≡ now (s' .1 .1 .1 .1 .1 .1 .1 .1 .0))
 take-scaler-one κs a r r' s s' asked p q =
-    let sc = asked .1 .1 .1 .0 in
+    let sc = asked .1 .1 .0 in
     let k = part-some (sc .0) (now (a .1 .1 .1 .1 .1 .0)) (now (a .1 .1 .1 .1 .1 .1 .0)) (a .1 .1 .1 .1 .1 .1 .1 .0) in
     (one-answer (p .0 (k .0) (sc .0) (sc .1) (k .1)) (q .0 (k .0) (sc .0) (sc .1) (k .1)), one-answer (p .1 (k .0) (sc .0) (sc .1) (k .1)) (q .1 (k .0) (sc .0) (sc .1) (k .1)))
 

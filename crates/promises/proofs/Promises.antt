@@ -3,6 +3,7 @@
 -- Assumes nothing.
 use mathlib.Core.Path.{_≡_, sym, ap, _∙_}
 use mathlib.Core.Logic.{_↔_, _≢_, _⊎_, inl, inr}
+use mathlib.Core.Bool.{Bool, false}
 use mathlib.Core.List.{List, _∷_, _++_}
 use Prim.Native.Nat.{ℕ, _+_, _/_, _%_, _≤_, _<_}
 use lib.Dec.{T}
@@ -16,15 +17,15 @@ use Rattle.meaning.specs.Registers.{cells, cell}
 use Rattle.meaning.specs.Grants.{grantsOf, grantsFine, termsOf, Terms}
 use Rattle.meaning.specs.Batch.{Cut, Longest, Holdable}
 use Rattle.meaning.specs.State.{valueAt, markAt, wellFormed, empty, Write, applyAll, allWrites, Reached}
-use Rattle.meaning.specs.Answers.{answer}
+use Rattle.meaning.specs.Answers.{answer, numberOf}
 use Rattle.meaning.specs.Reader.{readLeaves}
 use Rattle.meaning.specs.Writer.{written, writeAnswer}
 use Rattle.meaning.specs.Lister.{listing}
-use Rattle.meaning.specs.Reasons.{CellFine, Reads, Writes, Lists}
-use Rattle.meaning.specs.Memory.{Inside, Apart, Safe, Stores}
-use Rattle.meaning.specs.Calls.{readCall, readCallLeaves, writeCall, writeCallLeaves, listCall}
+use Rattle.meaning.specs.Reasons.{CellFine, ReaderGives, WriterGives, ListerGives}
+use Rattle.meaning.specs.Fitter.{Inside, Apart, Safe, Stores}
+use Rattle.meaning.specs.Exported.{exportedRead, exportedReadLeaves, exportedWrite, exportedWriteLeaves, exportedList}
 use Rattle.meaning.proofs.Bytes.{words-bytes, length-words, settle-done, settle-refused}
-use Rattle.meaning.proofs.Calls.{Byte}
+use Rattle.meaning.proofs.Exported.{Byte}
 use Rattle.meaning.proofs.Promises as theory
 use Rattle.reader.proofs.read.Reads as read
 use Rattle.writer.proofs.write.Reads as write
@@ -34,7 +35,7 @@ use Rattle.irangelda.proofs.irangelda_read.Reads as irangelda-read
 use Rattle.irangelda.proofs.irangelda_write.Reads as irangelda-write
 use Rattle.irangelda.proofs.irangelda_list.Reads as irangelda-list
 use Rattle.promises.proofs.Bytes.{bytes-small, read-leaves}
-use Rattle.promises.specs.Contracts.{Reading, Writing, Listing, ReadingBytes, WritingBytes, ListingBytes, WordBuffers, ListerBuffers, Tells}
+use Rattle.promises.specs.Contracts.{Reading, Writing, Listing, ReadingBytes, WritingBytes, ListingBytes, WordBuffers, ListerBuffers, Tells, BadBuffer}
 
 -- ==== The contracts
 
@@ -85,7 +86,7 @@ module _ (batch grants st : List ℕ) (a : Answer) (left : List ℕ) (read : Rea
   place-is-longest-beginning s l h2 h3 n = rw (read .0) (theory.place-is-longest-beginning ws gs sw s l h2 h3 (rw (read .0) at n))
 
   -- "A refusal gives the reason and place that document 01 fixes": the answer is r at p exactly if the table says so
-  pub each-reason-exactly : (r p : ℕ) → (a ≡ answer r p) ↔ Reads ws gs sw r p
+  pub each-reason-exactly : (r p : ℕ) → (a ≡ answer r p) ↔ ReaderGives ws gs sw r p
   each-reason-exactly r p = rw (read .0) (theory.each-reason-exactly ws gs sw 0 .reader r p)
 
   -- "state .. stay as they were": not one byte is changed
@@ -186,7 +187,7 @@ module _ (st grants out : List ℕ) (a : Answer) (left : List ℕ) (write : Writ
   writer-needs-its-room l r = rw (write .0) (theory.writer-needs-its-room from under (length out / 4) l r)
 
   -- "Each is given exactly then": of the writer
-  pub each-writer-reason-exactly : (r p : ℕ) → (a ≡ answer r p) ↔ Writes from under (length out / 4) r p
+  pub each-writer-reason-exactly : (r p : ℕ) → (a ≡ answer r p) ↔ WriterGives from under (length out / 4) r p
   each-writer-reason-exactly r p = rw (write .0) (theory.each-reason-exactly from under out (length out / 4) .writer r p)
 
   -- "output buffers stay as they were": not one byte is changed
@@ -209,7 +210,7 @@ module _ (st out : List ℕ) (a : Answer) (left : List ℕ) (list : Listing st o
   listing-is-exact s room = let t = theory.listing-is-exact shown out s room in (list .0 ∙ t .answered, list .1 ∙ t .left)
 
   -- "Each is given exactly then": of the lister
-  pub each-lister-reason-exactly : (r p : ℕ) → (a ≡ answer r p) ↔ Lists shown (length out) r p
+  pub each-lister-reason-exactly : (r p : ℕ) → (a ≡ answer r p) ↔ ListerGives shown (length out) r p
   each-lister-reason-exactly r p = rw (list .0) (theory.each-reason-exactly shown out out (length out) .lister r p)
 
   -- "output buffers stay as they were"
@@ -222,64 +223,56 @@ listing-at-most-2568 = theory.listing-at-most-2568
 
 -- ==== The calls of the driver
 
-module _ (batch grants st : List ℕ) (n : ℕ) (left : List ℕ) (call : ReadingBytes batch grants st n left) where
+-- a number that tells the answer a, and what is known of a: 13 is told exactly of bad buffers, and at place 0
+bad-buffer : (n : ℕ) (a : Answer) {fine : Bool} → n ≡ numberOf a → Tells n a → (a .reason ≡ 13) ↔ (¬ T fine) → (fine ≡ false → 13 ≡ numberOf a) → BadBuffer n (T fine)
+bad-buffer n a e tells exactly first = (rw (tells .0) exactly, λ bad. e ∙ sym (first (false-of _ bad)))
+
+-- of reader and writer: x, y and z are the bytes that are lent, z those that may be changed
+module _ (x y z : List ℕ) {n : ℕ} {left : List ℕ} where
   -- "the answer is one number, place × 256 + reason": the number tells both
-  pub read-number-tells-both : Tells n (readCall batch grants st)
-  read-number-tells-both = rw (call .0) (theory.number-tells-both batch grants st .0)
+  pub read-number-tells-both : ReadingBytes x y z n left → Tells n (exportedRead x y z)
+  read-number-tells-both call = rw (call .0) (theory.number-tells-both x y z .0)
+
+  pub write-number-tells-both : WritingBytes x y z n left → Tells n (exportedWrite x y z)
+  write-number-tells-both call = rw (call .0) (theory.number-tells-both x y z .1)
 
   -- "13: a buffer over 65,536 bytes, or a word buffer not a multiple of 4", before all others, and at place 0
-  pub read-bad-buffer-exactly : ((n % 256 ≡ 13) ↔ (¬ WordBuffers batch grants st)) × (¬ WordBuffers batch grants st → n ≡ 13)
-  read-bad-buffer-exactly = (
-    rw (read-number-tells-both .0) (theory.bad-buffer-exactly batch grants st .read),
-    λ bad. call .0 ∙ sym (read-13 batch grants st (false-of _ bad) .0),
-  )
+  pub read-bad-buffer-exactly : ReadingBytes x y z n left → BadBuffer n (WordBuffers x y z)
+  read-bad-buffer-exactly call = bad-buffer n _ (call .0) (read-number-tells-both call) (theory.bad-buffer-exactly x y z .read) (λ f. read-13 x y z f .0)
 
-  -- "No refusal changes a lent buffer": not one byte of the state
-  pub read-refusal-changes-nothing : n % 256 ≢ 0 → left ≡ st
-  read-refusal-changes-nothing z = call .1 ∙ theory.refusal-changes-nothing batch grants st .read-call (rw (read-number-tells-both .0) at z)
+  pub write-bad-buffer-exactly : WritingBytes x y z n left → BadBuffer n (WordBuffers x y z)
+  write-bad-buffer-exactly call = bad-buffer n _ (call .0) (write-number-tells-both call) (theory.bad-buffer-exactly x y z .write) (λ f. write-13 x y z f .0)
+
+  -- "No refusal changes a lent buffer": not one byte of the reader's state, or of the writer's output
+  pub read-refusal-changes-nothing : ReadingBytes x y z n left → n % 256 ≢ 0 → left ≡ z
+  read-refusal-changes-nothing call r = call .1 ∙ theory.refusal-changes-nothing x y z .read-call (rw (read-number-tells-both call .0) at r)
+
+  pub write-refusal-changes-nothing : WritingBytes x y z n left → n % 256 ≢ 0 → left ≡ z
+  write-refusal-changes-nothing call r = call .1 ∙ theory.refusal-changes-nothing x y z .write-call (rw (write-number-tells-both call .0) at r)
 
   -- "Demands 2 and 3 speak of calls that 13 lets through": the number tells an answer that the reader's contract allows on the same bytes,
   -- with what is left, so that every promise of the reader is one of this call
-  pub read-call-is-the-reader : WordBuffers batch grants st → (a : Answer) × Tells n a × Reading batch grants st a left
-  unfolding readCallLeaves
-  read-call-is-the-reader fine =
-      let words = theory.calls-are-the-words batch grants st .read fine in
-      (readCall batch grants st, read-number-tells-both, (words, call .1 ∙ rw (whole-state batch grants st (true-of _ fine))))
+  pub read-call-is-the-reader : ReadingBytes x y z n left → WordBuffers x y z → (a : Answer) × Tells n a × Reading x y z a left
+  unfolding exportedReadLeaves
+  read-call-is-the-reader call fine =
+      let words = theory.calls-are-the-words x y z .read fine in
+      (exportedRead x y z, read-number-tells-both call, (words, call .1 ∙ rw (whole-state x y z (true-of _ fine))))
 
-module _ (st grants out : List ℕ) (n : ℕ) (left : List ℕ) (call : WritingBytes st grants out n left) where
-  -- "the answer is one number, place × 256 + reason": the number tells both
-  pub write-number-tells-both : Tells n (writeCall st grants out)
-  write-number-tells-both = rw (call .0) (theory.number-tells-both st grants out .1)
-
-  -- "13: a buffer over 65,536 bytes, or a word buffer not a multiple of 4"
-  pub write-bad-buffer-exactly : ((n % 256 ≡ 13) ↔ (¬ WordBuffers st grants out)) × (¬ WordBuffers st grants out → n ≡ 13)
-  write-bad-buffer-exactly = (
-    rw (write-number-tells-both .0) (theory.bad-buffer-exactly st grants out .write),
-    λ bad. call .0 ∙ sym (write-13 st grants out (false-of _ bad) .0),
-  )
-
-  -- "No refusal changes a lent buffer": not one byte of the output
-  pub write-refusal-changes-nothing : n % 256 ≢ 0 → left ≡ out
-  write-refusal-changes-nothing z = call .1 ∙ theory.refusal-changes-nothing st grants out .write-call (rw (write-number-tells-both .0) at z)
-
-  -- what 13 lets through is the writer on the same bytes
-  pub write-call-is-the-writer : WordBuffers st grants out → (a : Answer) × Tells n a × Writing st grants out a left
-  unfolding writeCallLeaves
-  write-call-is-the-writer fine =
-      let words = theory.calls-are-the-words st grants out .write fine in
-      (writeCall st grants out, write-number-tells-both, (words ∙ ap (writeAnswer (wordsOf st) (wordsOf grants)) (length-words out), call .1))
+  -- and the writer's
+  pub write-call-is-the-writer : WritingBytes x y z n left → WordBuffers x y z → (a : Answer) × Tells n a × Writing x y z a left
+  unfolding exportedWriteLeaves
+  write-call-is-the-writer call fine =
+      let words = theory.calls-are-the-words x y z .write fine in
+      (exportedWrite x y z, write-number-tells-both call, (words ∙ ap (writeAnswer (wordsOf x) (wordsOf y)) (length-words z), call .1))
 
 module _ (st out : List ℕ) (n : ℕ) (left : List ℕ) (call : ListingBytes st out n left) where
   -- "the answer is one number, place × 256 + reason": the number tells both
-  pub list-number-tells-both : Tells n (listCall st out)
+  pub list-number-tells-both : Tells n (exportedList st out)
   list-number-tells-both = rw (call .0) (theory.number-tells-both st st out .2)
 
   -- "13: a buffer over 65,536 bytes, or a word buffer not a multiple of 4": of the lister the state is words
-  pub list-bad-buffer-exactly : ((n % 256 ≡ 13) ↔ (¬ ListerBuffers st out)) × (¬ ListerBuffers st out → n ≡ 13)
-  list-bad-buffer-exactly = (
-    rw (list-number-tells-both .0) (theory.bad-buffer-exactly st st out .list),
-    λ bad. call .0 ∙ sym (list-13 st out (false-of _ bad) .0),
-  )
+  pub list-bad-buffer-exactly : BadBuffer n (ListerBuffers st out)
+  list-bad-buffer-exactly = bad-buffer n _ (call .0) list-number-tells-both (theory.bad-buffer-exactly st st out .list) (λ f. list-13 st out f .0)
 
   -- "No refusal changes a lent buffer": not one byte of the output
   pub list-refusal-changes-nothing : n % 256 ≢ 0 → left ≡ out
@@ -289,4 +282,4 @@ module _ (st out : List ℕ) (n : ℕ) (left : List ℕ) (call : ListingBytes st
   pub list-call-is-the-lister : ListerBuffers st out → (a : Answer) × Tells n a × Listing st out a left
   list-call-is-the-lister fine =
       let words = theory.calls-are-the-words st st out in
-      (listCall st out, list-number-tells-both, (words .list fine, call .1 ∙ words .list-left fine))
+      (exportedList st out, list-number-tells-both, (words .list fine, call .1 ∙ words .list-left fine))

@@ -2,6 +2,7 @@
 -- that is lent to be changed.
 -- Assumes nothing.
 use mathlib.Core.Path.{_≡_}
+use mathlib.Core.Logic.{_↔_}
 use mathlib.Core.Bool.{_&&_}
 use mathlib.Core.List.{List, [], _∷_}
 use Prim.Native.Nat.{ℕ, _/_, _%_}
@@ -14,7 +15,7 @@ use Rattle.meaning.specs.Answers.{numberOf, settle}
 use Rattle.meaning.specs.Reader.{readAnswer, readLeaves}
 use Rattle.meaning.specs.Writer.{written, writeAnswer}
 use Rattle.meaning.specs.Lister.{listAnswer, listLeaves}
-use Rattle.meaning.specs.Calls.{bufferFine, wordBufferFine, readCall, readCallLeaves, writeCall, writeCallLeaves, listCall, listCallLeaves}
+use Rattle.meaning.specs.Exported.{bufferFine, wordBufferFine, exportedRead, exportedReadLeaves, exportedWrite, exportedWriteLeaves, exportedList, exportedListLeaves}
 
 -- `reader::read` on the bytes of a batch, of a grant list and of a state answers a and leaves the bytes `left` of the state. The words
 -- over the front of the state's bytes are those that the definitions leave; bytes past the last whole word stay
@@ -36,15 +37,15 @@ Listing st out a left = (a ≡ listAnswer (wordsOf st) (length out)) × (left �
 
 -- `irangelda_read` on the bytes of a batch, of a grant list and of a state answers the number n and leaves the bytes `left` of the state
 abbrev pub ReadingBytes : List ℕ → List ℕ → List ℕ → ℕ → List ℕ → Type 0
-ReadingBytes batch grants st n left = (n ≡ numberOf (readCall batch grants st)) × (left ≡ readCallLeaves batch grants st)
+ReadingBytes batch grants st n left = (n ≡ numberOf (exportedRead batch grants st)) × (left ≡ exportedReadLeaves batch grants st)
 
 -- `irangelda_write` on the bytes of a state, of a grant list and of an output answers n and leaves the output `left`
 abbrev pub WritingBytes : List ℕ → List ℕ → List ℕ → ℕ → List ℕ → Type 0
-WritingBytes st grants out n left = (n ≡ numberOf (writeCall st grants out)) × (left ≡ writeCallLeaves st grants out)
+WritingBytes st grants out n left = (n ≡ numberOf (exportedWrite st grants out)) × (left ≡ exportedWriteLeaves st grants out)
 
 -- `irangelda_list` on the bytes of a state and an output answers n and leaves the output `left`
 abbrev pub ListingBytes : List ℕ → List ℕ → ℕ → List ℕ → Type 0
-ListingBytes st out n left = (n ≡ numberOf (listCall st out)) × (left ≡ listCallLeaves st out)
+ListingBytes st out n left = (n ≡ numberOf (exportedList st out)) × (left ≡ exportedListLeaves st out)
 
 -- what 13 lets through: no "buffer over 65,536 bytes", no "word buffer not a multiple of 4". The buffers of reader and writer are words,
 abbrev pub WordBuffers : List ℕ → List ℕ → List ℕ → Type 0
@@ -57,3 +58,7 @@ ListerBuffers st out = T (wordBufferFine st && bufferFine out)
 -- "the answer is one number, place × 256 + reason": its reason and its place are those of a
 abbrev pub Tells : ℕ → Answer → Type 0
 Tells n a = (n % 256 ≡ a .reason) × (n / 256 ≡ a .place)
+
+-- 13 is told exactly where the buffers are not fine, and then at place 0
+abbrev pub BadBuffer : ℕ → Type 0 → Type 0
+BadBuffer n Fine = ((n % 256 ≡ 13) ↔ (¬ Fine)) × (¬ Fine → n ≡ 13)

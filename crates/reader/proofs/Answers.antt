@@ -18,8 +18,9 @@ use Rattle.meaning.specs.State.{stateWords, wellFormed, applyAll}
 use Rattle.meaning.specs.Positions.{writesOf}
 use Rattle.meaning.specs.Answers.{badState, badGrants, answer, settle}
 use Rattle.meaning.specs.Reader.{batchAnswer, readAnswer, readLeaves}
-use Rattle.grants.specs.Kept.{Bounded, Keeps, keptAfter}
-use Rattle.grants.proofs.Keeping.{keeps}
+use Rattle.grants.specs.Kept.{Bounded, Keeps}
+use Rattle.keeping.specs.Keeping.{keptAfter}
+use Rattle.keeping.proofs.Keeping.{keeps}
 use Rattle.bodies.specs.Passes.{answerOf}
 use Rattle.packets.specs.Packets.{packetsFrom}
 use Rattle.packets.proofs.Packets.{answered, wrote, same-size}

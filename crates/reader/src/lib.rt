@@ -2,9 +2,21 @@
 ghost use mathlib.Core.Path.{_≡_};
 ghost use Rattle.laws.specs.Lists.{over};
 ghost use Rattle.meaning.specs.Words.{wordsOf, bytesOf};
-ghost use Rattle.meaning.specs.Answers.{settle};
+ghost use Rattle.meaning.specs.Answers.{answer, settle};
 ghost use Rattle.meaning.specs.Reader.{readAnswer, readLeaves};
+use grants::BOUNDS;
 use meaning::Answer;
+use meaning::BAD_GRANTS;
+use meaning::BAD_STATE;
+use meaning::MOST_GRANTS;
+use meaning::STATE_WORDS;
+
+// A refusal before the first word.
+fn refused(reason: u32) -> Answer
+    ensures answer { λ r. ⌜ r ≡ answer reason 0 ⌝ }
+{
+    Answer { reason, place: 0 }
+}
 
 // Reads a batch: 1 if the state is not well-formed, 2 if the grant list breaks its rules, then what the first bad word gives, or 10;
 // else 0 and the batch's length in words. The state is changed only if the whole batch is accepted; bytes past the last whole word of a
@@ -14,21 +26,15 @@ pub fn read(batch: &[u8], grants: &[u8], state: &mut [u8]) -> Answer
     ensures bytes { λ r. ⌜ now (state .exit) ≡ settle r (over (bytesOf (readLeaves (wordsOf (now (batch .entry))) (wordsOf (now (grants .entry))) (wordsOf (now (state .entry))))) (now (state .entry))) (now (state .entry)) ⌝ }
 {
     if !states::well_formed(state) {
-        return Answer {
-            reason: 1,
-            place: 0,
-        };
+        return refused(BAD_STATE);
     }
-    let mut starts = [0u32; 64];
-    let mut lasts = [0u32; 64];
-    let mut bounds = [0usize; 8];
-    if !grants::keep(grants, &mut starts, &mut lasts, &mut bounds) {
-        return Answer {
-            reason: 2,
-            place: 0,
-        };
+    let mut starts = [0u32; MOST_GRANTS];
+    let mut lasts = [0u32; MOST_GRANTS];
+    let mut bounds = [0usize; BOUNDS];
+    if !keeping::keep(grants, &mut starts, &mut lasts, &mut bounds) {
+        return refused(BAD_GRANTS);
     }
-    let mut own = [0u32; 202];
+    let mut own = [0u32; STATE_WORDS];
     states::load(state, &mut own);
     let answer = packets::read_packets(batch, &starts, &lasts, &bounds, &mut own);
     if answer.reason == 0 {

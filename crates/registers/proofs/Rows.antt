@@ -26,32 +26,25 @@ pub record Register (o c n i : ℕ) : Type 0 where
   pub offset : offsetOf (cell (c + i)) .0 ≡ o + 4 * i
   pub row : rowFrom (cell (c + i)) ≡ n - i
 
+-- by its offset, and by where its row ends
+placed : {o c n : ℕ} (i : ℕ) → 84 ≤ c → c + n ≤ 101 → i < n → offsetOf (cell (c + i)) .0 ≡ o + 4 * i → rowFrom (cell (c + i)) ≡ c + n - (c + i) → Register o c n i
+placed {o} {c} {n} i low end h offset row =
+    let left : c + n - (c + i) ≡ n - i = omega arith in
+    record { low = low; high = omega arith; offset = offset; row = row ∙ left }
+
 pub register : {o c n : ℕ} → VideoRow o c n → (i : ℕ) → i < n → Register o c n i
 unfolding offsetOf rowFrom
 register overlay i h =
-    let r : 87 - (84 + i) ≡ 3 - i = omega arith in
-    record {
-      low = omega arith;
-      high = omega arith;
-      offset = rw (le-leb (84 + i) 86 (omega arith)) (omega arith);
-      row = rw (le-leb (84 + i) 86 (omega arith), r);
-    }
+    let low = le-leb (84 + i) 86 (omega arith) in
+    placed i (omega arith) (omega arith) h (rw low (omega arith)) (rw low)
 register first i h =
-    let r : 94 - (87 + i) ≡ 7 - i = omega arith in
-    record {
-      low = omega arith;
-      high = omega arith;
-      offset = rw (lt-leb (87 + i) 86 (omega arith), le-leb (87 + i) 93 (omega arith)) (omega arith);
-      row = rw (lt-leb (87 + i) 86 (omega arith), le-leb (87 + i) 93 (omega arith), r);
-    }
+    let above = lt-leb (87 + i) 86 (omega arith) in
+    let low = le-leb (87 + i) 93 (omega arith) in
+    placed i (omega arith) (omega arith) h (rw (above, low) (omega arith)) (rw (above, low))
 register second i h =
-    let r : 101 - (94 + i) ≡ 7 - i = omega arith in
-    record {
-      low = omega arith;
-      high = omega arith;
-      offset = rw (lt-leb (94 + i) 86 (omega arith), lt-leb (94 + i) 93 (omega arith)) (omega arith);
-      row = rw (lt-leb (94 + i) 86 (omega arith), lt-leb (94 + i) 93 (omega arith), r);
-    }
+    let above = lt-leb (94 + i) 86 (omega arith) in
+    let high = lt-leb (94 + i) 93 (omega arith) in
+    placed i (omega arith) (omega arith) h (rw (above, high) (omega arith)) (rw (above, high))
 
 -- where a run of so many words from there on stays in the row
 pub stays : {o c n : ℕ} (r : VideoRow o c n) (i : ℕ) → i < n → (k : ℕ) → (findVideo (offsetOf (cell (c + i))) ≡ At (cell (c + i))) × (runIn (offsetOf (cell (c + i))) k ≡ leb (i + k) n)

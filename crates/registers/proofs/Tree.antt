@@ -1,8 +1,8 @@
--- The lookup by type, sub-type and sub-address, as the tests of a `match` have it: the table's groups, one law for each row of them.
+-- The lookup by type, sub-type and sub-address as a tree of tests: the table's groups, one law for each row of them.
 -- Assumes nothing.
 use mathlib.Core.Path.{_≡_, refl, sym, ap, _∙_}
 use mathlib.Core.Bool.{Bool, true, false, _&&_, cond}
-use mathlib.Core.List.{List, [], _∷_, _++_, map}
+use mathlib.Core.List.{List, [], _∷_, _++_, map, append-assoc}
 use Prim.Native.Nat.{ℕ, zero, suc, _+_, _*_, _-_, _≤_, _<_}
 use native.Mathlib.Omega.{arith}
 use native.Mathlib.Decide.{ℕ-discrete, decLt}
@@ -14,7 +14,8 @@ use Rattle.laws.specs.Tests.{within}
 use Rattle.meaning.specs.declared.SubAddress.{SubAddress}
 use Rattle.meaning.specs.declared.Found.{Found}
 use Rattle.meaning.specs.declared.Found.the-variants.{At, Missing}
-use Rattle.meaning.specs.Registers.{cell, Row, Group, targetGroup, stage, sample, groups, find, findAmong, find3D}
+use Rattle.registers.specs.Names.{ranged}
+use Rattle.meaning.specs.Registers.{cell, Row, Group, Section, of3D, targetGroup, stage, sample, stageSection, sampleSection, sectionsVideo, sections, find, findAmong, find3D}
 
 -- the cell of a sub-address among rows
 abbrev pub among : SubAddress → List (Row SubAddress) → Found
@@ -27,12 +28,15 @@ rowsOf t u =
     (cond (eqb t 0x02) (cond (leb u 0x0F) (stage u .rows) (cond (within 0x20 0x2F u) (sample (u - 0x20) .rows) [])) [])
 
 -- groups of one type whose sub-types are numbered from K on
-module _ (f : ℕ → Group) (T K : ℕ) (is : (n : ℕ) → (f n .type ≡ T) × (f n .subType ≡ K + n)) (t u : ℕ) (a : SubAddress) (gs : List Group) where
-  abbrev next : ℕ → List Group → Found
+module _ (f : ℕ → Group) (T K : ℕ) (is : (n : ℕ) → (f n .type ≡ T) × (f n .subType ≡ K + n)) (t u : ℕ) (a : SubAddress) (ss : List Section) where
+  abbrev at : ℕ → Section
+  at k = of3D (f k)
+
+  abbrev next : ℕ → List Section → Found
   next i rest = cond (eqb t (f i .type) && eqb u (f i .subType)) (among a (f i .rows)) (findAmong t u a rest)
 
   -- the one that has the sub-type answers
-  hit : t ≡ T → (j : ℕ) → u ≡ K + j → (i n : ℕ) → i ≤ j → j < i + n → findAmong t u a (map f (from i n) ++ gs) ≡ among a (f j .rows)
+  hit : t ≡ T → (j : ℕ) → u ≡ K + j → (i n : ℕ) → i ≤ j → j < i + n → findAmong t u a (map at (from i n) ++ ss) ≡ among a (f j .rows)
   unfolding findAmong from
   hit p j q i zero l h = absurd (omega arith)
   hit p j q i (suc n) l h =
@@ -42,7 +46,7 @@ module _ (f : ℕ → Group) (T K : ℕ) (is : (n : ℕ) → (f n .type ≡ T) �
       ]
 
   -- where none has it, the groups after them do
-  miss : (i n : ℕ) → ((j : ℕ) → i ≤ j → j < i + n → t ≡ T → u ≡ K + j → ⊥) → findAmong t u a (map f (from i n) ++ gs) ≡ findAmong t u a gs
+  miss : (i n : ℕ) → ((j : ℕ) → i ≤ j → j < i + n → t ≡ T → u ≡ K + j → ⊥) → findAmong t u a (map at (from i n) ++ ss) ≡ findAmong t u a ss
   unfolding findAmong from
   miss i zero none = refl
   miss i (suc n) none =
@@ -60,23 +64,21 @@ sample-is : (n : ℕ) → (sample n .type ≡ 0x02) × (sample n .subType ≡ 0x
 unfolding sample
 sample-is n = (refl, refl)
 
-abbrev samples : List Group
-samples = map sample (from 0 16)
+abbrev samples : List Section
+samples = map sampleSection (from 0 16) ++ sectionsVideo
 
--- past the target's group, the stages and then the samples are asked
+-- past the target's group, the stages and then the samples are asked; no lookup of a 3D register finds anything among the video rows
 module _ (t u : ℕ) (a : SubAddress) where
   abbrev rest : Found
-  rest = findAmong t u a (map stage (from 0 16) ++ samples)
+  rest = findAmong t u a (map stageSection (from 0 16) ++ samples)
 
   first : find3D t u a ≡ cond (eqb t 0x01 && eqb u 0x00) (among a (targetGroup .rows)) rest
-  unfolding find3D groups targetGroup findAmong
-  first = refl
+  unfolding find3D sections targetGroup findAmong
+  first =
+      ap (λ (ss : List Section). cond (eqb t 0x01 && eqb u 0x00) (among a (targetGroup .rows)) (findAmong t u a ss))
+      (append-assoc (map stageSection (from 0 16)) (map sampleSection (from 0 16)) sectionsVideo)
 
-  samples-end : findAmong t u a samples ≡ findAmong t u a (samples ++ [])
-  unfolding from
-  samples-end = refl
-
-  none-left : findAmong t u a [] ≡ Missing
+  none-left : findAmong t u a sectionsVideo ≡ Missing
   unfolding findAmong
   none-left = refl
 
@@ -84,7 +86,7 @@ module _ (t u : ℕ) (a : SubAddress) where
   no-stage no-j = miss stage 0x02 0x00 stage-is t u a samples 0 16 (λ j l h p q. no-j j h p (omega arith))
 
   no-sample : ((j : ℕ) → j < 16 → t ≡ 0x02 → u ≡ 0x20 + j → ⊥) → findAmong t u a samples ≡ Missing
-  no-sample no-j = samples-end ∙ miss sample 0x02 0x20 sample-is t u a [] 0 16 (λ j l h p q. no-j j h p q) ∙ none-left
+  no-sample no-j = miss sample 0x02 0x20 sample-is t u a sectionsVideo 0 16 (λ j l h p q. no-j j h p q) ∙ none-left
 
   -- a type that has neither
   neither : (t ≡ 0x02 → ⊥) → rest ≡ Missing
@@ -104,7 +106,7 @@ module _ (t u : ℕ) (a : SubAddress) where
               | no m ↦ elim (decLt 0x2F u) [
                 | yes n ↦ rw (le-leb 0x20 u (omega arith), lt-leb u 0x2F n, nothing) (no-sample (λ j h q e. omega arith))
                 | no n ↦ rw (le-leb 0x20 u (omega arith), le-leb u 0x2F (omega arith))
-                    (samples-end ∙ hit sample 0x02 0x20 sample-is t u a [] p (u - 0x20) (omega arith) 0 16 (omega arith) (omega arith))
+                    (hit sample 0x02 0x20 sample-is t u a sectionsVideo p (u - 0x20) (omega arith) 0 16 (omega arith) (omega arith))
               ]
             ])
       ]
@@ -155,10 +157,6 @@ in-order a lo c (r ∷ rs) o =
       | no e ↦ rw (ne-eqb (a .0) (r .name .0) e) (in-order a (suc lo) (suc c) rs (o .2) ∙ one-on (a .0) lo c (length rs) (λ x. e (x ∙ sym (o .0))))
     ]
 
--- a cell, where a sub-address lies among the n that follow one another from lo on
-abbrev pub ranged : ℕ → ℕ → ℕ → ℕ → Found
-ranged lo n c a = cond (leb lo a && ltb a (lo + n)) (At (cell (c + (a - lo)))) Missing
-
 -- the lookup as a tree of tests
 unfoldable pub tree3D : ℕ → ℕ → ℕ → Found
 tree3D t u a =
@@ -187,10 +185,10 @@ sample-rows : (n : ℕ) (a : SubAddress) → among a (sample n .rows) ≡ ranged
 unfolding sample
 sample-rows n a = in-order a 0x30 (36 + 3 * n) _ (refl, refl, (refl, omega arith, (refl, omega arith, tt)))
 
-pub by-tree : (t u : ℕ) (a : SubAddress) {r : Found} → r ≡ tree3D t u (a .0) → r ≡ find3D t u a
+pub by-tree : (t u : ℕ) (a : SubAddress) → find3D t u a ≡ tree3D t u (a .0)
 unfolding tree3D rowsOf
-by-tree t u a e =
-    e ∙ sym (by-rows t u a ∙ rw (
+by-tree t u a =
+    by-rows t u a ∙ rw (
       among-cond a (eqb t 0x01),
       among-cond a (eqb u 0x00),
       among-cond a (eqb t 0x02),
@@ -200,4 +198,4 @@ by-tree t u a e =
       stage-rows u a,
       sample-rows (u - 0x20) a,
       nothing t u a,
-    ))
+    )

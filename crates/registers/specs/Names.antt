@@ -1,9 +1,12 @@
 -- The names of the cells, and the runs of video registers: the table read from the cell's side. proofs/Names ties them to the table.
 -- Assumes nothing.
-use mathlib.Core.Bool.{cond}
+use mathlib.Core.Bool.{_&&_, cond}
 use Prim.Native.Nat.{ℕ, _+_, _*_, _-_, _/_, _%_}
-use lib.Dec.{leb, eqb}
+use lib.Dec.{leb, ltb, eqb}
 use Rattle.meaning.specs.declared.Cell.{Cell}
+use Rattle.meaning.specs.declared.Found.{Found}
+use Rattle.meaning.specs.declared.Found.the-variants.{At, Missing}
+use Rattle.meaning.specs.Registers.{cell}
 use Rattle.meaning.specs.declared.SubAddress.{SubAddress}
 use Rattle.meaning.specs.declared.VideoOffset.{VideoOffset}
 use Rattle.registers.specs.declared.Name.{Name}
@@ -36,3 +39,7 @@ offsetOf c =
 -- how many video registers stand in a row from a cell on
 unfoldable pub rowFrom : Cell → ℕ
 rowFrom c = cond (leb (c .0) 86) (87 - c .0) (cond (leb (c .0) 93) (94 - c .0) (101 - c .0))
+
+-- a cell, where a name lies among the n that follow one another from lo on, the first of them the name of cell c
+abbrev pub ranged : ℕ → ℕ → ℕ → ℕ → Found
+ranged lo n c a = cond (leb lo a && ltb a (lo + n)) (At (cell (c + (a - lo)))) Missing

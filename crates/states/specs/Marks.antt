@@ -1,8 +1,8 @@
--- Of the marks of a state: whether some cells are marked as they may be, and how many are marked.
+-- Of the marks of a state: whether the cells below a number are marked as they may be.
 -- Assumes nothing.
 use mathlib.Core.Bool.{Bool}
 use mathlib.Core.List.{List}
-use Prim.Native.Nat.{ℕ, zero, suc, _+_}
+use Prim.Native.Nat.{ℕ}
 use lib.Dec.{leb, eqb}
 use Rattle.laws.specs.Lists.{every, from}
 use Rattle.laws.specs.Tests.{implies}
@@ -16,13 +16,3 @@ marksTo st n = every (λ k. leb (markAt st (cell k)) 1) (from 0 n)
 -- each unmarked value of the cells below n is 0
 abbrev pub clearTo : List ℕ → ℕ → Bool
 clearTo st n = every (λ k. implies (eqb (markAt st (cell k)) 0) (eqb (valueAt st (cell k)) 0)) (from 0 n)
-
--- 1 for a marked cell, 0 for an unmarked one
-unfoldable pub oneIfMarked : ℕ → ℕ
-oneIfMarked zero = 0
-oneIfMarked (suc m) = 1
-
--- of the n cells from cell i on, how many are marked; a cell beyond the state is unmarked
-unfoldable pub markedIn : List ℕ → ℕ → ℕ → ℕ
-markedIn st i zero = 0
-markedIn st i (suc n) = oneIfMarked (markAt st (cell i)) + markedIn st (suc i) n

@@ -1,4 +1,4 @@
-// The register state: 101 values, then 101 marks; as it is lent, in bytes, and as the reader's own copy, in words.
+// The register state, values and then marks: as it is lent, in bytes, and as the reader's own copy, in words.
 ghost use mathlib.Core.Path.{_≡_};
 ghost use Prim.Native.Nat.{_≤_, _<_, _-_};
 ghost use lib.Dec.{T, leb, eqb};
@@ -7,9 +7,11 @@ ghost use Rattle.laws.specs.Lists.{over};
 ghost use Rattle.laws.specs.Tests.{implies};
 ghost use Rattle.meaning.specs.Words.{wordsOf, bytesOf};
 ghost use Rattle.meaning.specs.Registers.{cells};
-ghost use Rattle.meaning.specs.State.{stateWords, valueAt, markAt, wellFormed};
-ghost use Rattle.states.specs.Marks.{marksTo, clearTo, oneIfMarked, markedIn};
+ghost use Rattle.meaning.specs.State.{stateWords, valueAt, markAt, isMark, marked, wellFormed, one, countIn};
+ghost use Rattle.states.specs.Marks.{marksTo, clearTo};
+use meaning::CELLS;
 use meaning::Cell;
+use meaning::STATE_WORDS;
 use meaning::State;
 
 // The value of a cell,
@@ -27,7 +29,7 @@ pub fn mark(state: &[u8], cell: Cell) -> u32
     requires inside { ⌜ cell .0 < cells ⌝ }
     ensures mark { λ r. ⌜ r ≡ markAt (wordsOf (now (state .entry))) cell ⌝ }
 {
-    words::word(state, 101 + cell.0)
+    words::word(state, CELLS + cell.0)
 }
 
 // All marks, gathered by `|`: at most 1 exactly if each is.
@@ -37,7 +39,7 @@ fn gathered_marks(state: &[u8]) -> u32
 {
     let mut marks: u32 = 0;
     let mut c = 0;
-    while c < 101 {
+    while c < CELLS {
         marks = marks | mark(state, Cell(c));
         c += 1;
     }
@@ -47,7 +49,7 @@ fn gathered_marks(state: &[u8]) -> u32
 // What a cell holds without a mark. Where the mark is 0, one less is all ones.
 fn excess(value: u32, mark: u32) -> u32
     requires small { ⌜ mark ≤ 1 ⌝ }
-    ensures { λ r. ⌜ eqb r 0 ≡ implies (eqb mark 0) (eqb value 0) ⌝ }
+    ensures clear { λ r. ⌜ eqb r 0 ≡ implies (eqb mark 0) (eqb value 0) ⌝ }
 {
     value & std::num::wrapping_sub_u32(mark, 1)
 }
@@ -60,18 +62,18 @@ fn gathered_excess(state: &[u8]) -> u32
 {
     let mut held: u32 = 0;
     let mut c = 0;
-    while c < 101 {
+    while c < CELLS {
         held = held | excess(value(state, Cell(c)), mark(state, Cell(c)));
         c += 1;
     }
     held
 }
 
-// 202 words, each mark 0 or 1, and an unmarked value is 0. Two loops with no early way out, so that each becomes one over vectors.
+// As many words as a state has, each mark 0 or 1, and an unmarked value is 0. Two loops with no early way out, so that each becomes one over vectors.
 pub fn well_formed(state: &[u8]) -> bool
     ensures formed { λ r. ⌜ r ≡ wellFormed (wordsOf (now (state .entry))) ⌝ }
 {
-    if state.len() / 4 != 202 {
+    if state.len() / 4 != STATE_WORDS {
         return false;
     }
     if 1 < gathered_marks(state) {
@@ -81,7 +83,8 @@ pub fn well_formed(state: &[u8]) -> bool
 }
 
 fn one(mark: u32) -> usize
-    ensures { λ r. ⌜ (r ≡ oneIfMarked mark) × (r ≤ 1) ⌝ }
+    ensures one { λ r. ⌜ r ≡ one (isMark mark) ⌝ }
+    ensures few { λ r. ⌜ r ≤ 1 ⌝ }
 {
     if mark == 0 {
         return 0;
@@ -93,7 +96,7 @@ fn one(mark: u32) -> usize
 pub fn marked_between(state: &[u8], first: usize, end: usize) -> usize
     requires inside { ⌜ end ≤ cells ⌝ }
     requires whole { ⌜ length (wordsOf (now state)) ≡ stateWords ⌝ }
-    ensures count { λ r. ⌜ r ≡ markedIn (wordsOf (now (state .entry))) first (end - first) ⌝ }
+    ensures count { λ r. ⌜ r ≡ countIn (marked (wordsOf (now (state .entry)))) first (end - first) ⌝ }
 {
     let mut n: usize = 0;
     let mut c = first;
@@ -111,7 +114,7 @@ pub fn load(bytes: &[u8], state: &mut State)
     ensures loaded { λ _. ⌜ now (state .exit) ≡ wordsOf (now (bytes .entry)) ⌝ }
 {
     let mut i = 0;
-    while i < 202 {
+    while i < STATE_WORDS {
         state[i] = words::word(bytes, i);
         i += 1;
     }
@@ -124,7 +127,7 @@ pub fn store(state: &State, bytes: &mut [u8])
     ensures stored { λ _. ⌜ now (bytes .exit) ≡ over (bytesOf (now (state .entry))) (now (bytes .entry)) ⌝ }
 {
     let mut i = 0;
-    while i < 202 {
+    while i < STATE_WORDS {
         words::put_word(bytes, i, state[i]);
         i += 1;
     }

@@ -1,6 +1,6 @@
 -- The writer's answer, by what its tests came to; and what a search tells that finds no bad cell.
 -- Assumes nothing.
-use mathlib.Core.Path.{_≡_, refl, ap}
+use mathlib.Core.Path.{_≡_, refl, sym, ap, _∙_}
 use mathlib.Core.Bool.{Bool, true, false}
 use mathlib.Core.List.{List}
 use Prim.Native.Nat.{ℕ, _≤_, _<_}
@@ -15,16 +15,18 @@ use Rattle.laws.proofs.Tests.{holds-of}
 use Rattle.meaning.specs.declared.Found.{Found}
 use Rattle.meaning.specs.declared.Found.the-variants.{At, Missing}
 use Rattle.meaning.specs.declared.Answer.{Answer}
-use Rattle.meaning.specs.Registers.{cells, cell, groups, targetGroup, stage, sample, videoRows, scaler, registerAmong, registerAt}
+use Rattle.meaning.specs.Registers.{cells, firstVideo, cell, targetGroup, stage, sample, overlay, scaler, sections, registerAmong, registerIn, registerAt}
 use Rattle.meaning.specs.Grants.{Terms, mostGrants, grantsFine, termsOf}
-use Rattle.meaning.specs.State.{wellFormed}
+use Rattle.meaning.specs.State.{marked, wellFormed}
 use Rattle.meaning.specs.Answers.{badState, badGrants, noRoom, notWritable, success, answer}
-use Rattle.meaning.specs.Writer.{written, lowestBad, exceptAt, writeAnswer}
+use Rattle.meaning.specs.Writer.{written, needFor, lowestBad, exceptAt, writeAnswer}
+use Rattle.meaning.proofs.Writing.{need-is-length}
 use Rattle.meaning.proofs.Round.{Lowest, lowest-told}
-use Rattle.grants.specs.Kept.{keptAfter, Keeps, Bounded}
-use Rattle.grants.proofs.Keeping.{keeps}
+use Rattle.grants.specs.Kept.{Keeps, Bounded}
+use Rattle.keeping.specs.Keeping.{keptAfter}
+use Rattle.keeping.proofs.Keeping.{keeps}
 use Rattle.emitter.specs.Emitted.{Narrow}
-use Rattle.writer.specs.Search.{orEnd, lowest}
+use Rattle.search.specs.Search.{orEnd, lowest}
 
 -- ---- what the number tells of the search among all cells
 
@@ -43,13 +45,13 @@ module _ (g : Terms) (st : List ℕ) {low : ℕ} where
 asWide : ℕ → Bool
 asWide c = eqb (registerAt (cell c) .width) 24
 
-tested : T (every asWide (from 0 84))
-unfolding asWide every from registerAt registerAmong groups targetGroup stage sample videoRows scaler
+tested : T (every asWide (from 0 firstVideo))
+unfolding asWide every from registerAt registerIn registerAmong sections targetGroup stage sample overlay scaler
 tested = tt
 
-wide-3D : (c : ℕ) → c < 84 → registerAt (cell c) .width ≡ 24
+wide-3D : (c : ℕ) → c < firstVideo → registerAt (cell c) .width ≡ 24
 unfolding asWide
-wide-3D c h = eqb-yes (every-from asWide 0 84 tested c (omega arith) (omega arith))
+wide-3D c h = eqb-yes (every-from asWide 0 firstVideo tested c (omega arith) (omega arith))
 
 pub none-narrow : (g : Terms) (st : List ℕ) {low : ℕ} → low ≡ lowest g st 0 cells → cells ≤ low → Narrow st
 none-narrow g st e l c h m =
@@ -64,6 +66,11 @@ pub kept-after : (ws starts lasts : List ℕ) {s l b : List ℕ} → length star
 kept-after ws starts lasts n m f es el eb = rw (es, el, eb) (keeps ws starts lasts n m (holds-of f))
 
 -- ---- the answer
+
+-- the words that are needed are as many as are written
+pub as-written : (st : List ℕ) {need : ℕ} → need ≡ needFor (marked st) → need ≡ length (written st)
+unfolding written
+as-written st e = e ∙ sym (need-is-length (marked st) st)
 
 -- room for as many words as are needed is room for the words
 pub room-for : {need words room : ℕ} → need ≡ words → need ≤ room → words ≤ room

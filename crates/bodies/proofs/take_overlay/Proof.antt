@@ -1,8 +1,9 @@
 -- Each word is judged and stored, one register after another: to read on from here is to read the whole.
 -- Assumes nothing.
-use mathlib.Core.Path.{_≡_, ap}
+use mathlib.Core.Path.{_≡_, ap, _∙_}
 use Prim.Native.Nat.{_+_, _-_, _≤_}
 use native.Mathlib.Omega.{arith}
+use borrow.Author.Needs.{needs}
 use lib.ListN.{getD}
 use lib.Seq.{slice}
 use Rattle.meaning.specs.declared.Kind.{Kind}
@@ -13,9 +14,8 @@ use Rattle.meaning.specs.Grants.{Terms}
 use Rattle.meaning.specs.State.{apply}
 use Rattle.meaning.specs.Reader.{valueReason, wordReason}
 use Rattle.registers.specs.Names.{offsetOf}
-use Rattle.bodies.proofs.Named.{row-overlay}
 use Rattle.bodies.specs.Passes.{stored, bodyFrom}
-use Rattle.bodies.proofs.Bodies.{body-on, body-stop, body-done, as-answer, as-state, nth, first-offset, next-offset, word-asked, word-stored, among-words}
+use Rattle.bodies.proofs.Bodies.{row-overlay, body-on, body-stop, body-done, as-answer, as-state, nth, first-offset, next-offset, word-asked, word-stored, among-words}
 use Rattle.bodies.proofs.take_overlay.Statement.{statement}
 use Rattle.bodies.proofs.take_overlay.Tie as tie
 
@@ -63,8 +63,8 @@ returns : tie.Need-returns Inv-loop μ-loop
 returns c = let r = c .before in
     let l = r .before .before .before in
     let s = l .before .before in (
-      λ g. as-answer (body-stop g _ _ _ (among-words (s .args .batch .now) _ (s .pre .1 .0)) _ _ _ (l .loop .inv .3 g) (omega arith) (asked r g) (c .if1 .taken)),
-      λ g. as-state (body-stop g _ _ _ (among-words (s .args .batch .now) _ (s .pre .1 .0)) _ _ _ (l .loop .inv .3 g) (omega arith) (asked r g) (c .if1 .taken)),
+      λ g. as-answer (body-stop g _ _ _ (among-words (s .args .batch .now) _ (s .pre .0 .1)) _ _ _ (l .loop .inv .3 g) (omega arith) (asked r g) (c .if1 .taken)),
+      λ g. as-state (body-stop g _ _ _ (among-words (s .args .batch .now) _ (s .pre .0 .1)) _ _ _ (l .loop .inv .3 g) (omega arith) (asked r g) (c .if1 .taken)),
     )
 
 add-t13 : tie.Need-add-t13 Inv-loop μ-loop
@@ -86,13 +86,16 @@ loop-again : tie.Need-loop-again Inv-loop μ-loop
 loop-again c = let r = c .before .before .before in
     let l = r .before .before .before in
     let s = l .before .before in
-    (omega arith, omega arith, omega arith, λ g. body-on g _ _ _ (among-words (s .args .batch .now) _ (s .pre .1 .0)) _ _ _ (l .loop .inv .3 g) (omega arith) (asked r g) (c .before .before .if1 .left) (next-offset _ _ _ _ (omega arith)) (kept c g))
+    (omega arith, omega arith, omega arith, λ g. body-on g _ _ _ (among-words (s .args .batch .now) _ (s .pre .0 .1)) _ _ _ (l .loop .inv .3 g) (omega arith) (asked r g) (c .before .before .if1 .left) (next-offset _ _ _ _ (omega arith)) (kept c g))
+
+through-requires : tie.Need-through-requires Inv-loop μ-loop
+through-requires c κs = search needs
 
 returns-2 : tie.Need-returns-2 Inv-loop μ-loop
-returns-2 c = let l = c .before in
+returns-2 c = let l = c .before .before in
     let s = l .before .before in (
-      λ g. as-answer (body-done g _ _ _ (among-words (s .args .batch .now) _ (s .pre .1 .0)) _ _ _ (l .loop .inv .3 g) (omega arith)),
-      λ g. as-state (body-done g _ _ _ (among-words (s .args .batch .now) _ (s .pre .1 .0)) _ _ _ (l .loop .inv .3 g) (omega arith)),
+      λ g. c .through .ensures ∙ as-answer (body-done g _ _ _ (among-words (s .args .batch .now) _ (s .pre .0 .1)) _ _ _ (l .loop .inv .3 g) (omega arith)),
+      λ g. as-state (body-done g _ _ _ (among-words (s .args .batch .now) _ (s .pre .0 .1)) _ _ _ (l .loop .inv .3 g) (omega arith)),
     )
 
 pub take-overlay-spec : {M : Type 1} → statement M
@@ -111,4 +114,5 @@ take-overlay-spec =
     add-k
     loop-less
     loop-again
+    through-requires
     returns-2)

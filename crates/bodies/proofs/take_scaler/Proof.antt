@@ -1,8 +1,9 @@
 -- Each word is judged and stored, one register after another: to read on from here is to read the whole.
 -- Assumes nothing.
-use mathlib.Core.Path.{_≡_, ap}
+use mathlib.Core.Path.{_≡_, ap, _∙_}
 use Prim.Native.Nat.{ℕ, _+_, _-_, _≤_}
 use native.Mathlib.Omega.{arith}
+use borrow.Author.Needs.{needs}
 use lib.ListN.{getD}
 use lib.Seq.{slice}
 use Rattle.meaning.specs.declared.Kind.{Kind}
@@ -14,10 +15,9 @@ use Rattle.meaning.specs.State.{apply}
 use Rattle.meaning.specs.Reader.{valueReason, wordReason}
 use Rattle.registers.specs.Names.{offsetOf}
 use Rattle.grants.specs.Kept.{Granting}
-use Rattle.verdicts.specs.Scalers.{Scaler}
-use Rattle.bodies.proofs.Named.{row-scaler, scaler-cells}
+use Rattle.rows.specs.Scalers.{Scaler}
 use Rattle.bodies.specs.Passes.{stored, bodyFrom}
-use Rattle.bodies.proofs.Bodies.{body-on, body-stop, body-done, as-answer, as-state, nth, first-offset, next-offset, word-asked, word-stored, among-words}
+use Rattle.bodies.proofs.Bodies.{row-scaler, scaler-cells, body-on, body-stop, body-done, as-answer, as-state, nth, first-offset, next-offset, word-asked, word-stored, among-words}
 use Rattle.bodies.proofs.take_scaler.Statement.{statement}
 use Rattle.bodies.proofs.take_scaler.Tie as tie
 
@@ -54,7 +54,7 @@ kept k g role sc =
 
 -- the scaler's cells are cells of the state
 cells-of : (s : tie.Start Inv-loop μ-loop) → s .args .base .0 + 7 ≤ cells
-cells-of s = let sc = s .pre .1 .1 .1 .0 in scaler-cells (s .args .base .0) (sc .0) (sc .1) .1
+cells-of s = let sc = s .pre .1 .1 .0 in scaler-cells (s .args .base .0) (sc .0) (sc .1) .1
 
 loop-holds : tie.Need-loop-holds Inv-loop μ-loop
 loop-holds c = let s = c .before in (omega arith, omega arith, omega arith, λ g role sc given. ap (λ (k : Kind). bodyFrom g (s .args .first) k (slice (s .args .first) (s .args .end) (wordsOf (s .args .batch .now))) (s .args .state .now)) (first-offset (offsetOf (cell (s .args .base .0 + s .args .index))) (s .args .first)))
@@ -63,14 +63,14 @@ word-requires : tie.Need-word-requires Inv-loop μ-loop
 word-requires c κs = omega arith
 
 scaler-reason-requires : tie.Need-scaler-reason-requires Inv-loop μ-loop
-scaler-reason-requires c κs = (omega arith, c .before .before .before .before .pre .1 .1 .1 .1)
+scaler-reason-requires c κs = (omega arith, c .before .before .before .before .pre .1 .1 .1)
 
 returns : tie.Need-returns Inv-loop μ-loop
 returns c = let r = c .before in
     let l = r .before .before .before in
     let s = l .before .before in (
-      λ g role sc given. as-answer (body-stop g _ _ _ (among-words (s .args .batch .now) _ (s .pre .1 .0)) _ _ _ (l .loop .inv .3 g role sc given) (omega arith) (asked r g role sc given) (c .if1 .taken)),
-      λ g role sc given. as-state (body-stop g _ _ _ (among-words (s .args .batch .now) _ (s .pre .1 .0)) _ _ _ (l .loop .inv .3 g role sc given) (omega arith) (asked r g role sc given) (c .if1 .taken)),
+      λ g role sc given. as-answer (body-stop g _ _ _ (among-words (s .args .batch .now) _ (s .pre .0 .1)) _ _ _ (l .loop .inv .3 g role sc given) (omega arith) (asked r g role sc given) (c .if1 .taken)),
+      λ g role sc given. as-state (body-stop g _ _ _ (among-words (s .args .batch .now) _ (s .pre .0 .1)) _ _ _ (l .loop .inv .3 g role sc given) (omega arith) (asked r g role sc given) (c .if1 .taken)),
     )
 
 add-t18 : tie.Need-add-t18 Inv-loop μ-loop
@@ -92,13 +92,16 @@ loop-again : tie.Need-loop-again Inv-loop μ-loop
 loop-again c = let r = c .before .before .before in
     let l = r .before .before .before in
     let s = l .before .before in
-    (omega arith, omega arith, omega arith, λ g role sc given. body-on g _ _ _ (among-words (s .args .batch .now) _ (s .pre .1 .0)) _ _ _ (l .loop .inv .3 g role sc given) (omega arith) (asked r g role sc given) (c .before .before .if1 .left) (next-offset _ _ _ _ (omega arith)) (kept c g role sc))
+    (omega arith, omega arith, omega arith, λ g role sc given. body-on g _ _ _ (among-words (s .args .batch .now) _ (s .pre .0 .1)) _ _ _ (l .loop .inv .3 g role sc given) (omega arith) (asked r g role sc given) (c .before .before .if1 .left) (next-offset _ _ _ _ (omega arith)) (kept c g role sc))
+
+through-requires : tie.Need-through-requires Inv-loop μ-loop
+through-requires c κs = search needs
 
 returns-2 : tie.Need-returns-2 Inv-loop μ-loop
-returns-2 c = let l = c .before in
+returns-2 c = let l = c .before .before in
     let s = l .before .before in (
-      λ g role sc given. as-answer (body-done g _ _ _ (among-words (s .args .batch .now) _ (s .pre .1 .0)) _ _ _ (l .loop .inv .3 g role sc given) (omega arith)),
-      λ g role sc given. as-state (body-done g _ _ _ (among-words (s .args .batch .now) _ (s .pre .1 .0)) _ _ _ (l .loop .inv .3 g role sc given) (omega arith)),
+      λ g role sc given. c .through .ensures ∙ as-answer (body-done g _ _ _ (among-words (s .args .batch .now) _ (s .pre .0 .1)) _ _ _ (l .loop .inv .3 g role sc given) (omega arith)),
+      λ g role sc given. as-state (body-done g _ _ _ (among-words (s .args .batch .now) _ (s .pre .0 .1)) _ _ _ (l .loop .inv .3 g role sc given) (omega arith)),
     )
 
 pub take-scaler-spec : {M : Type 1} → statement M
@@ -117,4 +120,5 @@ take-scaler-spec =
     add-k
     loop-less
     loop-again
+    through-requires
     returns-2)

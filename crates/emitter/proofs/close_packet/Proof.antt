@@ -35,7 +35,7 @@ add-put-word : tie.Need-add-put-word
 add-put-word c = search needs
 
 put-word-requires : tie.Need-put-word-requires
-put-word-requires c κs = omega (arith, c .before .before .before .pre .1 .1 .1 .1 .1 (c .before .if1 .left))
+put-word-requires c κs = omega (arith, c .before .before .before .pre .1 .1 .1 .1 (c .before .if1 .left))
 
 add-put-word-2 : tie.Need-add-put-word-2
 add-put-word-2 c = search needs
@@ -53,7 +53,7 @@ put-word-requires-2 : tie.Need-put-word-requires-2
 put-word-requires-2 c κs =
     let p = c .before .before .before in
     let left = p .before .before in
-    omega (arith, left .before .before .pre .1 .1 .1 .1 .1 (left .if1 .left), ap length (p .put-word .ensures) ∙ length-put _ _ _)
+    omega (arith, left .before .before .pre .1 .1 .1 .1 (left .if1 .left), ap length (p .put-word .ensures) ∙ length-put _ _ _)
 
 same-length : tie.Need-same-length
 same-length c = search needs

@@ -1,171 +1,80 @@
--- Of all words, those of the groups that are left are left to emit, from the place reached: so at each turn of both loops. Where that is
--- the place at which all words end, none is left, and the rest of the groups need not be looked at.
+-- Of all words, those of the stages and the samples are left once the target's are emitted, and then those of the samples.
 -- Assumes nothing.
-use mathlib.Core.Path.{sym}
+use mathlib.Core.Path.{sym, ap, _∙_}
 use mathlib.Core.List.{List, [], _++_, append-nil}
-use Prim.Native.Nat.{ℕ, _-_}
+use Prim.Native.Nat.{ℕ, _+_, _/_, _≤_}
 use native.Mathlib.Omega.{arith}
+use lib.ListN.{length}
 use Rattle.meaning.specs.Words.{wordsOf}
-use Rattle.meaning.specs.Registers.{targetGroup}
-use Rattle.emitter.specs.Emitted.{inRow, groupWords, stageWords, sampleWords, many, words3D}
-use Rattle.emitter.proofs.Emitted.{few-words}
-use Rattle.emitter.proofs.Runs.{Runs, begun, retold, same-long, room-here, went, ended, full, chained, rowLeft, row-room, row-went, row-past}
+use Rattle.meaning.specs.Registers.{sections3D}
+use Rattle.emitter.specs.Emitted.{targetWords, seriesFrom, many, wordsOfSections}
+use Rattle.emitter.proofs.Emitted.{words-3D}
+use Rattle.emitter.proofs.Runs.{Runs, begun, same-long, within, room-here, went, ended}
+use borrow.Author.Needs.{needs}
 use Rattle.emitter.proofs.emit_3d.Statement.{statement}
 use Rattle.emitter.proofs.emit_3d.Tie as tie
 
--- the words of all stages, and of all samples
-abbrev stages : List ℕ → List ℕ
-stages st = inRow (stageWords st) 0 many
+-- the words of the target, of the stages and of the samples
+abbrev target : tie.Start → List ℕ
+target s = targetWords (wordsOf (s .args .state .now))
 
-abbrev samples : List ℕ → List ℕ
-samples st = inRow (sampleWords st) 0 many
+abbrev stages : tie.Start → List ℕ
+stages s = seriesFrom (wordsOf (s .args .state .now)) 4 2 0x50 0x00 0 many
 
--- of those from stage n on, and of those from sample n on
-abbrev stagesLeft : List ℕ → ℕ → List ℕ
-stagesLeft st n = rowLeft (stageWords st) n many (samples st)
+abbrev samples : tie.Start → List ℕ
+samples s = seriesFrom (wordsOf (s .args .state .now)) 36 3 0x30 0x20 0 many
 
-abbrev samplesLeft : List ℕ → ℕ → List ℕ
-samplesLeft st n = rowLeft (sampleWords st) n many []
+-- so much of all words is left
+abbrev Left : tie.Start → List ℕ → List ℕ → ℕ → Type 0
+Left s = Runs (wordsOfSections (wordsOf (s .args .state .now)) sections3D) (s .args .out .now) 0
 
-abbrev Inv-loop : tie.InvT-loop
-Inv-loop state out₀ end at₀ stage₀ out at stage = Runs (stagesLeft (wordsOf state) 0) out₀ at₀ (stagesLeft (wordsOf state) stage) out at
+start : (s : tie.Start) → Left s (target s ++ (stages s ++ (samples s ++ []))) (s .args .out .now) 0
+start s = begun _ _ _ (words-3D (wordsOf (s .args .state .now)) ∙ ap (λ (ws : List ℕ). target s ++ (stages s ++ ws)) (sym (append-nil (samples s))))
 
-abbrev μ-loop : tie.MeasureT-loop
-μ-loop state out₀ end at₀ stage₀ out at stage = many - stage
+-- what a series asks for that is next: it ends at the end of all or before, and there is room up to there
+asked : (s : tie.Start) (piece more : List ℕ) {out : List ℕ} {at : ℕ} → Left s (piece ++ more) out at
+    → (at + length piece ≤ s .args .end) × (s .args .end ≤ length out / 4)
+asked s piece more left = (omega (arith, within piece more left, s .pre .1 .1 .0), omega (arith, same-long left, s .pre .1 .1 .1))
 
-abbrev Inv-loop2 : tie.InvT-loop2
-Inv-loop2 state out₀ end at₀ stage sample₀ out at sample = Runs (samplesLeft (wordsOf state) 0) out₀ at₀ (samplesLeft (wordsOf state) sample) out at
-
-abbrev μ-loop2 : tie.MeasureT-loop2
-μ-loop2 state out₀ end at₀ stage sample₀ out at sample = many - sample
-
--- the target is first
-begins : (st old : List ℕ) → Runs (words3D st) old 0 (groupWords st targetGroup ++ stagesLeft st 0) old 0
-unfolding words3D
-begins st old = begun (words3D st) old 0
-
-emit-target-requires : tie.Need-emit-target-requires Inv-loop μ-loop Inv-loop2 μ-loop2
+emit-target-requires : tie.Need-emit-target-requires
 emit-target-requires c κs =
     let s = c .before .before .before in
-    let room = room-here (groupWords (wordsOf (s .args .state .now)) targetGroup) _ (begins (wordsOf (s .args .state .now)) (s .args .out .now)) (omega arith) in
-    (s .pre .0, (s .pre .1 .0, (omega arith, room)))
+    (s .pre .0, (s .pre .1 .0, omega (arith, room-here (target s) (stages s ++ (samples s ++ [])) (start s) (omega (arith, s .pre .1 .1)))))
 
-loop-holds : tie.Need-loop-holds Inv-loop μ-loop Inv-loop2 μ-loop2
-loop-holds c = begun _ _ _
+after-target : (c : tie.After-emit-target) → let s = c .before .before .before .before in Left s (stages s ++ (samples s ++ [])) (c .emit-target .last .1 .0) (c .emit-target .result)
+after-target c =
+    let s = c .before .before .before .before in
+    went (target s) (stages s ++ (samples s ++ [])) (start s) (omega (arith, c .emit-target .ensures .0), c .emit-target .ensures .1)
 
--- what is left of all words, at a turn of the first loop,
-in-stages : (c : tie.At-loop Inv-loop μ-loop Inv-loop2 μ-loop2) →
-    let s = c .before .before .before .before .before .before .before in
-    let st = wordsOf (s .args .state .now) in
-    Runs (words3D st) (s .args .out .now) 0 (stagesLeft st (c .loop .stage)) (c .loop .out) (c .loop .at)
-in-stages c =
+emit-series-requires : tie.Need-emit-series-requires
+emit-series-requires c κs =
     let t = c .before .before .before in
     let s = t .before .before .before .before in
-    let st = wordsOf (s .args .state .now) in
-    chained (went (groupWords st targetGroup) (stagesLeft st 0) (begins st (s .args .out .now)) (t .emit-target .ensures .0) (t .emit-target .ensures .1)) (c .loop .inv)
+    (s .pre .0, (s .pre .1 .0, (omega arith, (omega arith, (omega arith, (omega arith, asked s (stages s) (samples s ++ []) (after-target t)))))))
 
--- and of the second
-in-samples : (c : tie.At-loop2 Inv-loop μ-loop Inv-loop2 μ-loop2) →
-    let s = c .before .before .before .before .before .before .before .before .before in
-    let st = wordsOf (s .args .state .now) in
-    Runs (words3D st) (s .args .out .now) 0 (samplesLeft st (c .loop2 .sample)) (c .loop2 .out) (c .loop2 .at)
-in-samples c =
-    let k = c .before .before in
-    let st = wordsOf (k .before .before .before .before .before .before .before .args .state .now) in
-    let stored = row-past (stageWords st) (k .loop .stage) many (samples st) (in-stages k) (omega arith) in
-    chained (retold (sym (append-nil (samples st))) stored) (c .loop2 .inv)
+after-stages : (c : tie.After-emit-series) → let s = c .before .before .before .before .before .before .before .before in Left s (samples s ++ []) (c .emit-series .last .1 .1 .1 .1 .1 .0) (c .emit-series .result)
+after-stages c =
+    let t = c .before .before .before .before in
+    let s = t .before .before .before .before in
+    went (stages s) (samples s ++ []) (after-target t) (c .emit-series .ensures)
 
-same-length : tie.Need-same-length Inv-loop μ-loop Inv-loop2 μ-loop2
-same-length c = same-long (in-stages (c .before .before))
+emit-series-requires-2 : tie.Need-emit-series-requires-2
+emit-series-requires-2 c κs =
+    let t = c .before .before .before in
+    let s = t .before .before .before .before .before .before .before .before in
+    (s .pre .0, (s .pre .1 .0, (omega arith, (omega arith, (omega arith, (omega arith, asked s (samples s) [] (after-stages t)))))))
 
-returns : tie.Need-returns Inv-loop μ-loop Inv-loop2 μ-loop2
-returns c = (omega arith, full (in-stages (c .before .before)) (omega arith))
+same-length : tie.Need-same-length
+same-length c = search needs
 
-emit-stage-requires : tie.Need-emit-stage-requires Inv-loop μ-loop Inv-loop2 μ-loop2
-emit-stage-requires c κs =
-    let l = c .before .before .before in
-    let s = l .before .before .before .before .before .before .before in
-    let st = wordsOf (s .args .state .now) in
-    let runs = in-stages l in
-    let room = row-room (stageWords st) (l .loop .stage) many (samples st) runs (omega arith) (omega arith) in
-    (s .pre .0, (s .pre .1 .0, (omega (arith, runs .ends, few-words st), (omega arith, room))))
-
-add-stage : tie.Need-add-stage Inv-loop μ-loop Inv-loop2 μ-loop2
-add-stage c = omega arith
-
-loop-less : tie.Need-loop-less Inv-loop μ-loop Inv-loop2 μ-loop2
-loop-less c = omega arith
-
-loop-again : tie.Need-loop-again Inv-loop μ-loop Inv-loop2 μ-loop2
-loop-again c =
-    let e = c .before .before in
-    let l = e .before .before .before .before in
-    let st = wordsOf (l .before .before .before .before .before .before .before .args .state .now) in
-    row-went (stageWords st) (l .loop .stage) many (samples st) (l .loop .inv) (omega arith) (e .emit-stage .ensures .0) (e .emit-stage .ensures .1)
-
-loop2-holds : tie.Need-loop2-holds Inv-loop μ-loop Inv-loop2 μ-loop2
-loop2-holds c = begun _ _ _
-
-same-length-2 : tie.Need-same-length-2 Inv-loop μ-loop Inv-loop2 μ-loop2
-same-length-2 c = same-long (in-samples (c .before .before))
-
-returns-2 : tie.Need-returns-2 Inv-loop μ-loop Inv-loop2 μ-loop2
-returns-2 c = (omega arith, full (in-samples (c .before .before)) (omega arith))
-
-emit-sample-requires : tie.Need-emit-sample-requires Inv-loop μ-loop Inv-loop2 μ-loop2
-emit-sample-requires c κs =
-    let l = c .before .before .before in
-    let s = l .before .before .before .before .before .before .before .before .before in
-    let st = wordsOf (s .args .state .now) in
-    let runs = in-samples l in
-    let room = row-room (sampleWords st) (l .loop2 .sample) many [] runs (omega arith) (omega arith) in
-    (s .pre .0, (s .pre .1 .0, (omega (arith, runs .ends, few-words st), (omega arith, room))))
-
-add-sample : tie.Need-add-sample Inv-loop μ-loop Inv-loop2 μ-loop2
-add-sample c = omega arith
-
-loop2-less : tie.Need-loop2-less Inv-loop μ-loop Inv-loop2 μ-loop2
-loop2-less c = omega arith
-
-loop2-again : tie.Need-loop2-again Inv-loop μ-loop Inv-loop2 μ-loop2
-loop2-again c =
-    let e = c .before .before in
-    let l = e .before .before .before .before in
-    let st = wordsOf (l .before .before .before .before .before .before .before .before .before .args .state .now) in
-    row-went (sampleWords st) (l .loop2 .sample) many [] (l .loop2 .inv) (omega arith) (e .emit-sample .ensures .0) (e .emit-sample .ensures .1)
-
-same-length-3 : tie.Need-same-length-3 Inv-loop μ-loop Inv-loop2 μ-loop2
-same-length-3 c = same-long (in-samples (c .before))
-
-returns-3 : tie.Need-returns-3 Inv-loop μ-loop Inv-loop2 μ-loop2
-returns-3 c =
-    let l = c .before in
-    let st = wordsOf (l .before .before .before .before .before .before .before .before .before .args .state .now) in
-    let all = ended (row-past (sampleWords st) (l .loop2 .sample) many [] (in-samples l) (omega arith)) in
-    (omega (arith, all .0), all .1)
+returns : tie.Need-returns
+returns c =
+    let t = c .before .before in
+    let e = t .before .before .before .before in
+    let s = e .before .before .before .before .before .before .before .before in
+    ended (went (samples s) [] (after-stages e) (t .emit-series2 .ensures)) .1
 
 pub emit-3d-spec : {M : Type 1} → statement M
 emit-3d-spec =
     tie.close
-    (tie.spec
-    Inv-loop
-    μ-loop
-    Inv-loop2
-    μ-loop2
-    emit-target-requires
-    loop-holds
-    same-length
-    returns
-    emit-stage-requires
-    add-stage
-    loop-less
-    loop-again
-    loop2-holds
-    same-length-2
-    returns-2
-    emit-sample-requires
-    add-sample
-    loop2-less
-    loop2-again
-    same-length-3
-    returns-3)
+    (tie.spec emit-target-requires emit-series-requires emit-series-requires-2 same-length returns)

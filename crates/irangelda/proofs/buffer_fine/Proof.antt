@@ -1,7 +1,7 @@
 -- The test is the definition's.
 -- Assumes nothing.
 use mathlib.Core.Path.{refl}
-use Rattle.meaning.specs.Calls.{bufferFine}
+use Rattle.meaning.specs.Exported.{bufferFine}
 use Rattle.irangelda.proofs.buffer_fine.Statement.{statement}
 use Rattle.irangelda.proofs.buffer_fine.Tie as tie
 

@@ -6,7 +6,7 @@ use borrow.Author.Needs.{needs}
 use lib.ListN.{length}
 use Rattle.laws.proofs.Arms.{told-true, told-false}
 use Rattle.meaning.specs.Words.{wordsOf}
-use Rattle.meaning.specs.Calls.{wordBufferFine}
+use Rattle.meaning.specs.Exported.{wordBufferFine}
 use Rattle.irangelda.proofs.Places.{list-place}
 use Rattle.irangelda.proofs.Buffers.{list-13, list-answered}
 use Rattle.irangelda.proofs.irangelda_list.Statement.{statement}

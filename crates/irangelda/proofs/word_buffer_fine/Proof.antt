@@ -2,7 +2,7 @@
 -- Assumes nothing.
 use borrow.Author.Needs.{needs}
 use Rattle.laws.proofs.Arms.{told-true, told-false}
-use Rattle.meaning.specs.Calls.{wordBufferFine}
+use Rattle.meaning.specs.Exported.{wordBufferFine}
 use Rattle.irangelda.proofs.word_buffer_fine.Statement.{statement}
 use Rattle.irangelda.proofs.word_buffer_fine.Tie as tie
 

@@ -9,9 +9,8 @@ use Rattle.laws.specs.Lists.{from}
 use Rattle.laws.proofs.Arms.{told-true, told-false}
 use Rattle.meaning.specs.Words.{wordsOf}
 use Rattle.meaning.specs.Lister.{digit, hex, listing}
-use Rattle.lister.specs.Lines.{digitPairs}
-use Rattle.lister.proofs.Lines.{few}
-use Rattle.lister.proofs.Listing.{bad-state, no-room, listed, whole, listing-length, listing-stored}
+use Rattle.lines.specs.Lines.{digitPairs}
+use Rattle.lister.proofs.Listing.{bad-state, no-room, listed, whole, few, listing-length, listing-stored}
 use Rattle.lister.proofs.list.Statement.{statement}
 use Rattle.lister.proofs.list.Tie as tie
 

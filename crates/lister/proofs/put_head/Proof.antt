@@ -3,7 +3,7 @@
 use native.Mathlib.Omega.{arith}
 use lib.ListN.{length-set}
 use borrow.Author.Needs.{needs}
-use Rattle.lister.proofs.Pieces.{head-pieces}
+use Rattle.lister.proofs.Head.{head-pieces}
 use Rattle.lister.proofs.put_head.Statement.{statement}
 use Rattle.lister.proofs.put_head.Tie as tie
 

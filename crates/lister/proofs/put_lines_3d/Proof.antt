@@ -4,17 +4,18 @@ use mathlib.Core.Logic.{inl, inr}
 use Prim.Native.Nat.{_-_}
 use native.Mathlib.Omega.{arith}
 use Rattle.meaning.specs.Words.{wordsOf}
-use Rattle.lister.specs.Lines.{cellLine3D}
-use Rattle.lister.proofs.Listing.{wide-3D}
+use Rattle.meaning.specs.Registers.{firstVideo}
+use Rattle.lines.specs.Lines.{cellLine3D}
+use Rattle.lines.proofs.Pieces.{wide-3D}
 use Rattle.lister.proofs.Lines.{Going, begin, further, passed, fits, stored-line, ended}
 use Rattle.lister.proofs.put_lines_3d.Statement.{statement}
 use Rattle.lister.proofs.put_lines_3d.Tie as tie
 
 abbrev Inv-loop : tie.InvT-loop
-Inv-loop pairs state out₀ start count left₀ at₀ c₀ out left at c = Going cellLine3D 26 (wordsOf state) 0 84 out₀ start out left at c
+Inv-loop pairs state out₀ start first count left₀ at₀ c₀ out left at c = Going cellLine3D 26 (wordsOf state) first firstVideo out₀ start out left at c
 
 abbrev μ-loop : tie.MeasureT-loop
-μ-loop pairs state out₀ start count left₀ at₀ c₀ out left at c = 84 - c
+μ-loop pairs state out₀ start first count left₀ at₀ c₀ out left at c = firstVideo - c
 
 loop-holds : tie.Need-loop-holds Inv-loop μ-loop
 loop-holds c = begin (omega arith)

@@ -5,20 +5,21 @@ use Prim.Native.Nat.{_+_, _-_, _≤_}
 use native.Mathlib.Omega.{arith}
 use lib.ListN.{length}
 use Rattle.meaning.specs.Words.{wordsOf}
-use Rattle.states.specs.Marks.{markedIn}
-use Rattle.states.proofs.Counted.{marked-none}
-use Rattle.lister.specs.Lines.{cellLineVideo}
-use Rattle.lister.proofs.Listing.{wide-video}
+use Rattle.meaning.specs.Registers.{firstVideo, endVideo}
+use Rattle.meaning.specs.State.{marked, countIn}
+use Rattle.states.proofs.Counted.{count-none}
+use Rattle.lines.specs.Lines.{cellLineVideo}
+use Rattle.lines.proofs.Pieces.{wide-video}
 use Rattle.lister.proofs.Lines.{Going, begin, counted, passed, some, fits, stored-line, ended}
 use Rattle.lister.proofs.put_lines_video.Statement.{statement}
 use Rattle.lister.proofs.put_lines_video.Tie as tie
 
 abbrev Inv-loop : tie.InvT-loop
 Inv-loop pairs state out₀ start at₀ c₀ out at c =
-    (c ≤ 101) × Going cellLineVideo 22 (wordsOf state) 84 101 out₀ start out (markedIn (wordsOf state) c (101 - c)) at c
+    (c ≤ endVideo) × Going cellLineVideo 22 (wordsOf state) firstVideo endVideo out₀ start out (countIn (marked (wordsOf state)) c (endVideo - c)) at c
 
 abbrev μ-loop : tie.MeasureT-loop
-μ-loop pairs state out₀ start at₀ c₀ out at c = 101 - c
+μ-loop pairs state out₀ start at₀ c₀ out at c = endVideo - c
 
 loop-holds : tie.Need-loop-holds Inv-loop μ-loop
 loop-holds c = (omega arith, begin (omega arith))
@@ -68,7 +69,7 @@ returns : tie.Need-returns Inv-loop μ-loop
 returns c =
     let l = c .before in
     let st = wordsOf (l .before .before .before .args .state .now) in
-    ended (l .loop .inv .1) (omega (arith, marked-none st (l .loop .c) (101 - l .loop .c) (omega arith)))
+    ended (l .loop .inv .1) (omega (arith, count-none (marked st) (l .loop .c) (endVideo - l .loop .c) (omega arith)))
 
 pub put-lines-video-spec : {M : Type 1} → statement M
 put-lines-video-spec =

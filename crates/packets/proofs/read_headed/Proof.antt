@@ -1,29 +1,22 @@
--- The offset decides the kind of packet.
+-- What the header opens tells the kind of the words behind it.
 -- Assumes nothing.
-use mathlib.Core.Path.{_≡_, refl, sym, ap, _∙_}
-use mathlib.Core.Logic.{inl, inr}
-use Prim.Native.Nat.{ℕ, _+_, _≤_, _<_}
+use Prim.Native.Nat.{_+_}
 use native.Mathlib.Omega.{arith}
 use lib.Seq.{slice}
-use Rattle.meaning.specs.Words.{videoOffset, wordsOf}
-use Rattle.meaning.specs.Batch.{offset3D}
-use Rattle.meaning.proofs.Stretches.{kind-3D, count-small}
-use Rattle.bodies.proofs.Bodies.{as-answer, as-state}
-use Rattle.packets.proofs.Headers.{few-3D, many-3D, fine-3D, head-refused, head-passed}
 use borrow.Author.Needs.{needs}
+use Rattle.meaning.specs.Words.{wordsOf}
+use Rattle.packets.proofs.Headed.{each, told, head-refused, head-passed, scaler-role, scaler-part, part-inside}
 use Rattle.packets.proofs.read_headed.Statement.{statement}
 use Rattle.packets.proofs.read_headed.Tie as tie
 
--- the arm of 3D packets
-key : (c : tie.At-match-keys1) → c .before .offset .result ≡ offset3D
-key c = search needs
+header-of-requires : tie.Need-header-of-requires
+header-of-requires c κs = search needs
 
--- past the range of the overlay's registers, or before it
-past : (c : tie.Joined3) → 0x2208 ≤ c .before .before .offset .result → 0x2210 < c .before .before .offset .result
-past c l = elim (c .if3 .came) [ inl a ↦ omega (arith, a .taken) | inr b ↦ omega (arith, b .1 .left) ]
+enum-known-opened : tie.Need-enum-known-opened
+enum-known-opened c = search needs
 
-offset-requires : tie.Need-offset-requires
-offset-requires c κs = search needs
+enum-told : tie.Need-enum-told
+enum-told c = search needs
 
 add-read-3d : tie.Need-add-read-3d
 add-read-3d c = search needs
@@ -31,53 +24,75 @@ add-read-3d c = search needs
 read-3d-requires : tie.Need-read-3d-requires
 read-3d-requires c κs = search needs
 
-read-overlay-requires : tie.Need-read-overlay-requires
-read-overlay-requires c κs = let s = c .before .before .before .before .before .before in
-    (omega arith, (omega arith, (count-small _ (s .pre .0), (s .pre .1 .0, (s .pre .1 .1 .0, s .pre .1 .1 .1 .0)))))
+enum-known-opened-2 : tie.Need-enum-known-opened-2
+enum-known-opened-2 c = search needs
 
-read-scaler-requires : tie.Need-read-scaler-requires
-read-scaler-requires c κs = let s = c .before .before .before .before .before in
-    (c .before .before .match .rest .1, (past (c .before), (count-small _ (s .pre .0), (s .pre .1 .0, (s .pre .1 .1 .0, (s .pre .1 .1 .1 .0, s .pre .1 .1 .1 .1))))))
+add-take-overlay : tie.Need-add-take-overlay
+add-take-overlay c = search needs
+
+take-overlay-requires : tie.Need-take-overlay-requires
+take-overlay-requires c κs =
+    let s = c .before .before .before .before .before .before in
+    let run = told _ (c .before .before .before .before .header-of .ensures) (c .before .before .opened2 .given .1) in
+    ((omega arith, s .pre .0 .1), omega (arith, run .row))
+
+enum-known-opened-3 : tie.Need-enum-known-opened-3
+enum-known-opened-3 c = search needs
+
+part-of-requires : tie.Need-part-of-requires
+part-of-requires c κs = let o = c .before .before in scaler-role (told _ (o .before .before .header-of .ensures) (o .opened3 .given .1) .1)
+
+add-take-scaler : tie.Need-add-take-scaler
+add-take-scaler c = search needs
+
+take-scaler-requires : tie.Need-take-scaler-requires
+take-scaler-requires c κs =
+    let o = c .before .before .before .before in
+    let s = o .before .before .before .before in
+    let run = told _ (o .before .before .header-of .ensures) (o .opened3 .given .1) in
+    let given = part-inside (s .args .bounds .now) _ (c .before .part-of .ensures) (s .pre .1 .1) (scaler-role (run .1)) in
+    ((omega arith, s .pre .0 .1), (omega (arith, run .0 .row), ((_, run .1), given)))
 
 returns : tie.Need-returns
-returns c = let s = c .before .before .before .before .before .before .before in
-    let bound = sym (c .before .before .before .before .before .offset .ensures) ∙ key (c .before .before .before .before) in
-    let fine = sym (fine-3D (s .args .header) bound (s .pre .0) (omega arith) (omega arith)) in (
-      λ g k. head-passed g (s .args .at) (s .args .header) (slice (s .args .at + 1) (s .args .end) (wordsOf (s .args .batch .now))) _ fine _ (kind-3D (s .args .header) refl bound) (c .read-3d .ensures .0 g k) (c .read-3d .ensures .1 g k) .0,
-      λ g k. head-passed g (s .args .at) (s .args .header) (slice (s .args .at + 1) (s .args .end) (wordsOf (s .args .batch .now))) _ fine _ (kind-3D (s .args .header) refl bound) (c .read-3d .ensures .0 g k) (c .read-3d .ensures .1 g k) .1,
-    )
+returns c =
+    let bad = told _ (c .before .before .before .header-of .ensures) (c .before .opened .given .1) in
+    each (λ g k. head-refused g _ _ _ _ _ (bad .0) (bad .1))
 
 returns-2 : tie.Need-returns-2
-returns-2 c = let s = c .before .before .before .before in
-    let bad = few-3D (s .args .header) (sym (c .before .before .offset .ensures) ∙ key (c .before)) (s .pre .0) (omega arith) in
-    (λ g k. as-answer (head-refused g _ _ (slice (s .args .at + 1) (s .args .end) (wordsOf (s .args .batch .now))) _ 4 bad (λ z. omega arith)), λ g k. as-state (head-refused g _ _ (slice (s .args .at + 1) (s .args .end) (wordsOf (s .args .batch .now))) _ 4 bad (λ z. omega arith)))
+returns-2 c =
+    let fine = told _ (c .before .before .before .before .header-of .ensures) (c .before .before .enum-told .given .1) in
+    each (λ g k. head-passed g _ _ _ _ (fine .0) (fine .1) (c .read-3d .ensures .0 g k, c .read-3d .ensures .1 g k))
 
 returns-3 : tie.Need-returns-3
-returns-3 c = let s = c .before .before .before .before .before in
-    let bad = many-3D (s .args .header) (sym (c .before .before .before .offset .ensures) ∙ key (c .before .before)) (s .pre .0) (omega arith) in
-    (λ g k. as-answer (head-refused g _ _ (slice (s .args .at + 1) (s .args .end) (wordsOf (s .args .batch .now))) _ 4 bad (λ z. omega arith)), λ g k. as-state (head-refused g _ _ (slice (s .args .at + 1) (s .args .end) (wordsOf (s .args .batch .now))) _ 4 bad (λ z. omega arith)))
+returns-3 c =
+    let run = told _ (c .before .before .before .before .before .header-of .ensures) (c .before .before .before .opened2 .given .1) in
+    each (λ g k. head-passed g _ _ _ _ (run .fine) (run .kind) (c .take-overlay .ensures .0 g, c .take-overlay .ensures .1 g))
 
 returns-4 : tie.Need-returns-4
-returns-4 c = let s = c .before .before .before .before .before .before .before in
-    let same : videoOffset (s .args .header) ≡ record { 0 = c .before .before .before .before .before .offset .result } = ap (λ (o : ℕ). record { 0 = o }) (sym (c .before .before .before .before .before .offset .ensures)) in
-    (λ g k. c .read-overlay .ensures .0 g _ same (sym (s .pre .0)), λ g k. c .read-overlay .ensures .1 g _ same (sym (s .pre .0)))
-
-returns-5 : tie.Need-returns-5
-returns-5 c = let s = c .before .before .before .before .before .before in
-    let same : videoOffset (s .args .header) ≡ record { 0 = c .before .before .before .before .offset .result } = ap (λ (o : ℕ). record { 0 = o }) (sym (c .before .before .before .before .offset .ensures)) in
-    (λ g k. c .read-scaler .ensures .0 g _ same (sym (s .pre .0)) k, λ g k. c .read-scaler .ensures .1 g _ same (sym (s .pre .0)) k)
+returns-4 c =
+    let o = c .before .before .before .before .before in
+    let s = o .before .before .before .before in
+    let run = told _ (o .before .before .header-of .ensures) (o .opened3 .given .1) in
+    let given = scaler-part (s .args .bounds .now) _ (c .before .before .part-of .ensures) (run .1) in
+    each (λ g k. head-passed g _ _ (slice (s .args .at + 1) (s .args .end) (wordsOf (s .args .batch .now))) _ (run .0 .fine) (run .0 .kind) (c .take-scaler .ensures .0 g _ (run .1) (given g _ _ k), c .take-scaler .ensures .1 g _ (run .1) (given g _ _ k)))
 
 pub read-headed-spec : {M : Type 1} → statement M
 read-headed-spec =
     tie.close
     (tie.spec
-    offset-requires
+    header-of-requires
+    enum-known-opened
+    enum-told
     add-read-3d
     read-3d-requires
-    read-overlay-requires
-    read-scaler-requires
+    enum-known-opened-2
+    add-take-overlay
+    take-overlay-requires
+    enum-known-opened-3
+    part-of-requires
+    add-take-scaler
+    take-scaler-requires
     returns
     returns-2
     returns-3
-    returns-4
-    returns-5)
+    returns-4)

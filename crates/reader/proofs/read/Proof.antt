@@ -10,20 +10,32 @@ use Rattle.reader.proofs.read.Tie as tie
 well-formed-requires : tie.Need-well-formed-requires
 well-formed-requires c κs = search needs
 
+refused-requires : tie.Need-refused-requires
+refused-requires c κs = search needs
+
 same-length : tie.Need-same-length
 same-length c = search needs
 
 returns : tie.Need-returns
-returns c = state-refused (c .before .before .before .before .before .before .args .batch .now) (c .before .before .before .before .before .before .args .grants .now) (c .before .before .before .before .before .before .args .state .now) (told-false (c .before .well-formed .ensures) (c .if1 .taken))
+returns c =
+    let a = c .before .before .before .before .before .before .before .args in
+    rw (c .refused .ensures) (state-refused (a .batch .now) (a .grants .now) (a .state .now) (told-false (c .before .before .well-formed .ensures) (c .before .if1 .taken)))
 
 keep-requires : tie.Need-keep-requires
 keep-requires c κs = search needs
+
+refused-requires-2 : tie.Need-refused-requires-2
+refused-requires-2 c κs = search needs
 
 same-length-2 : tie.Need-same-length-2
 same-length-2 c = search needs
 
 returns-2 : tie.Need-returns-2
-returns-2 c = grants-refused (c .before .before .before .before .before .before .before .before .before .before .before .args .batch .now) (c .before .before .before .before .before .before .before .before .before .before .before .args .grants .now) (c .before .before .before .before .before .before .before .before .before .before .before .args .state .now) (told-true (c .before .before .before .before .before .before .well-formed .ensures) (c .before .before .before .before .before .if1 .left)) (told-false (c .before .keep .ensures .0) (c .if2 .taken))
+returns-2 c =
+    let k = c .before .before in
+    let w = k .before .before .before .before in
+    let a = w .before .before .before .before .before .before .args in
+    rw (c .refused2 .ensures) (grants-refused (a .batch .now) (a .grants .now) (a .state .now) (told-true (w .before .well-formed .ensures) (w .if1 .left)) (told-false (k .keep .ensures .0) (c .before .if2 .taken)))
 
 load-requires : tie.Need-load-requires
 load-requires c κs = (whole _ (told-true (c .before .before .before .before .before .before .before .before .well-formed .ensures) (c .before .before .before .before .before .before .before .if1 .left)), refl)
@@ -51,9 +63,11 @@ read-spec =
     tie.close
     (tie.spec
     well-formed-requires
+    refused-requires
     same-length
     returns
     keep-requires
+    refused-requires-2
     same-length-2
     returns-2
     load-requires

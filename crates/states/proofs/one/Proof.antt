@@ -3,12 +3,10 @@
 use mathlib.Core.Path.{sym}
 use native.Mathlib.Omega.{arith}
 use Rattle.states.proofs.Counted.{one-marked}
-use Rattle.states.specs.Marks.{oneIfMarked}
 use Rattle.states.proofs.one.Statement.{statement}
 use Rattle.states.proofs.one.Tie as tie
 
 returns : tie.Need-returns
-unfolding oneIfMarked
 returns c = (rw (c .if1 .taken), omega arith)
 
 returns-2 : tie.Need-returns-2

@@ -2,6 +2,7 @@
 -- Assumes nothing.
 use mathlib.Core.Path.{_≡_, refl}
 use mathlib.Core.Bool.{true}
+use native.Mathlib.Omega.{arith}
 use lib.ListN.{length}
 use Rattle.laws.proofs.Arms.{told-true, told-false}
 use Rattle.laws.proofs.Tests.{holds-of}
@@ -10,9 +11,9 @@ use Rattle.meaning.specs.Registers.{cells}
 use Rattle.meaning.specs.Grants.{grantsFine, termsOf}
 use Rattle.meaning.specs.State.{stateWords, wellFormed}
 use Rattle.grants.specs.Kept.{Keeps, Bounded}
-use Rattle.writer.specs.Search.{lowest}
-use Rattle.writer.proofs.Rows.{whole}
-use Rattle.writer.proofs.Answers.{none-narrow, kept-after, room-for, refused-state, refused-grants, refused-cell, refused-room, done}
+use Rattle.search.specs.Search.{lowest}
+use Rattle.meaning.proofs.States.{formed-iff}
+use Rattle.writer.proofs.Answers.{none-narrow, kept-after, as-written, room-for, refused-state, refused-grants, refused-cell, refused-room, done}
 use borrow.Author.Needs.{needs}
 use Rattle.writer.proofs.write.Statement.{statement}
 use Rattle.writer.proofs.write.Tie as tie
@@ -20,8 +21,11 @@ use Rattle.writer.proofs.write.Tie as tie
 well-formed-requires : tie.Need-well-formed-requires
 well-formed-requires c κs = search needs
 
+refused-requires : tie.Need-refused-requires
+refused-requires c κs = search needs
+
 returns : tie.Need-returns
-returns c = (refused-state _ _ _ (told-false (c .before .well-formed .ensures) (c .if1 .taken)), refl)
+returns c = let t = c .before in rw (c .refused .ensures) (refused-state _ _ _ (told-false (t .before .well-formed .ensures) (t .if1 .taken)), refl)
 
 keep-requires : tie.Need-keep-requires
 keep-requires c κs = search needs
@@ -31,10 +35,16 @@ formed : (c : tie.Else1) → wellFormed (wordsOf (c .before .before .before .bef
 formed c = told-true (c .before .well-formed .ensures) (c .if1 .left)
 
 formed-whole : (c : tie.Else1) → length (wordsOf (c .before .before .before .before .before .args .state .now)) ≡ stateWords
-formed-whole c = whole _ (holds-of (formed c))
+formed-whole c = formed-iff _ .0 (holds-of (formed c)) .size
+
+refused-requires-2 : tie.Need-refused-requires-2
+refused-requires-2 c κs = search needs
 
 returns-2 : tie.Need-returns-2
-returns-2 c = let k = c .before in (refused-grants _ _ _ (formed (k .before .before .before .before)) (told-false (k .keep .ensures .0) (c .if2 .taken)), refl)
+returns-2 c =
+    let t = c .before in
+    let k = t .before in
+    rw (c .refused2 .ensures) (refused-grants _ _ _ (formed (k .before .before .before .before)) (told-false (k .keep .ensures .0) (t .if2 .taken)), refl)
 
 -- the grants keep their rules, and are kept
 abbrev else-1 : tie.Else2 → tie.Else1
@@ -61,23 +71,27 @@ low : (c : tie.After-lowest-bad) → let a = start (else-2 c) .args in c .lowest
 low c = c .lowest-bad .ensures _ (kept (else-2 c) .0)
 
 returns-3 : tie.Need-returns-3
-returns-3 c = let l = c .before in let e = else-2 l in (refused-cell _ _ _ (formed (else-1 e)) (fine e) (low l) (c .if3 .taken), refl)
+returns-3 c = let l = c .before in let e = else-2 l in (refused-cell _ _ _ (formed (else-1 e)) (fine e) (low l) (omega arith), refl)
 
 needed-requires : tie.Need-needed-requires
 needed-requires c κs = formed-whole (else-1 (else-2 (c .before)))
 
+refused-requires-3 : tie.Need-refused-requires-3
+refused-requires-3 c κs = search needs
+
 returns-4 : tie.Need-returns-4
 returns-4 c =
-    let n = c .before .before in
+    let t = c .before in
+    let n = t .before .before in
     let l = n .before .before in
     let e = else-2 l in
-    (refused-room _ _ _ (formed (else-1 e)) (fine e) (low l) (n .before .if3 .left) (n .needed .ensures .1) (c .if4 .taken), refl)
+    rw (c .refused3 .ensures) (refused-room _ _ _ (formed (else-1 e)) (fine e) (low l) (n .before .if3 .left) (as-written _ (n .needed .ensures .1)) (t .if4 .taken), refl)
 
 emit-requires : tie.Need-emit-requires
 emit-requires c κs =
     let n = c .before .before .before in
     let l = n .before .before in
-    (formed-whole (else-1 (else-2 l)), (none-narrow _ _ (low l) (n .before .if3 .left), (room-for (n .needed .ensures .1) (c .before .if4 .left), n .needed .ensures .0)))
+    (formed-whole (else-1 (else-2 l)), (none-narrow _ _ (low l) (n .before .if3 .left), (room-for (as-written _ (n .needed .ensures .1)) (c .before .if4 .left), n .needed .ensures .0)))
 
 same-length : tie.Need-same-length
 same-length c = search needs
@@ -89,19 +103,22 @@ returns-5 c =
     let n = h .before .before in
     let l = n .before .before in
     let e = else-2 l in
-    (done _ _ _ (formed (else-1 e)) (fine e) (low l) (n .before .if3 .left) (n .needed .ensures .1) (h .if4 .left), m .emit .ensures)
+    (done _ _ _ (formed (else-1 e)) (fine e) (low l) (n .before .if3 .left) (as-written _ (n .needed .ensures .1)) (h .if4 .left), m .emit .ensures)
 
 pub write-spec : {M : Type 1} → statement M
 write-spec =
     tie.close
     (tie.spec
     well-formed-requires
+    refused-requires
     returns
     keep-requires
+    refused-requires-2
     returns-2
     lowest-bad-requires
     returns-3
     needed-requires
+    refused-requires-3
     returns-4
     emit-requires
     same-length

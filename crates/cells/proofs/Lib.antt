@@ -1,0 +1,4 @@
+pub mod Known
+pub mod Judged
+pub mod Asked
+pub mod Arms

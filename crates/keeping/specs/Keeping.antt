@@ -1,0 +1,59 @@
+-- How the grants of a list come to be kept: each at the end of its role's part, in the order of the list.
+-- Assumes nothing.
+use mathlib.Core.Bool.{cond}
+use mathlib.Core.List.{List, [], _∷_}
+use Prim.Native.Nat.{ℕ, suc, _+_, _-_}
+use lib.Dec.{leb, eqb}
+use lib.ListN.{getD, set}
+use Rattle.meaning.specs.Grants.{Grant, grantsOf, grantsFine}
+
+-- the whole of it
+pub record Kept : Type 0 where
+  pub starts : List ℕ
+  pub lasts : List ℕ
+  pub bounds : List ℕ
+
+-- a grant at the end of its role's part; one whose reach is more than its length covers no address, and is left out
+unfoldable pub place : Grant → Kept → Kept
+place g k =
+    let at = getD (k .bounds) (4 + g .role) 0 in
+    cond (leb (g .reach) (g .length))
+    (record {
+      starts = set (k .starts) at (g .start);
+      lasts = set (k .lasts) at (g .start + (g .length - g .reach));
+      bounds = set (k .bounds) (4 + g .role) (at + 1);
+    })
+    k
+
+-- one grant after another
+unfoldable pub placeAll : List Grant → Kept → Kept
+placeAll [] k = k
+placeAll (g ∷ gs) k = placeAll gs (place g k)
+
+-- how many grants have the role
+unfoldable pub withRole : ℕ → List Grant → ℕ
+withRole role [] = 0
+withRole role (g ∷ gs) = let more = withRole role gs in cond (eqb (g .role) role) (suc more) more
+
+-- nothing is counted, and nothing is kept
+abbrev pub noCounts : List ℕ
+noCounts = 0 ∷ 0 ∷ 0 ∷ 0 ∷ []
+
+abbrev pub noBounds : List ℕ
+noBounds = 0 ∷ 0 ∷ 0 ∷ 0 ∷ 0 ∷ 0 ∷ 0 ∷ 0 ∷ []
+
+-- each role's part begins behind those before it, and is empty
+unfoldable pub beginnings : List Grant → List ℕ
+beginnings gs =
+    let second = withRole 1 gs in
+    let third = withRole 1 gs + withRole 2 gs in
+    0 ∷ 0 ∷ second ∷ third ∷ 0 ∷ 0 ∷ second ∷ third ∷ []
+
+-- the grants of a list kept, over what stood in the room for them
+unfoldable pub keptOf : List Grant → List ℕ → List ℕ → Kept
+keptOf gs starts lasts = placeAll gs (record { starts = starts; lasts = lasts; bounds = beginnings gs })
+
+-- the same where the list keeps its rules; else nothing is kept
+unfoldable pub keptAfter : List ℕ → List ℕ → List ℕ → Kept
+keptAfter ws starts lasts =
+    cond (grantsFine ws) (keptOf (grantsOf ws) starts lasts) (record { starts = starts; lasts = lasts; bounds = noBounds })

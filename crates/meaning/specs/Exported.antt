@@ -1,0 +1,58 @@
+-- The three calls on bytes: "every buffer is bytes, words are 32 bits little-endian, and the answer is one number".
+-- Assumes nothing.
+use mathlib.Core.Bool.{Bool, _&&_}
+use mathlib.Core.List.{List, [], _∷_}
+use Prim.Native.Nat.{ℕ, _/_, _%_}
+use lib.Dec.{leb, eqb}
+use lib.ListN.{length}
+use Rattle.laws.specs.Lists.{every, over}
+use Rattle.meaning.specs.declared.Answer.{Answer}
+use Rattle.meaning.specs.Words.{wordsOf, bytesOf}
+use Rattle.meaning.specs.Answers.{badBuffer, provided, settle}
+use Rattle.meaning.specs.Reader.{readAnswer, readLeaves}
+use Rattle.meaning.specs.Writer.{written, writeAnswer}
+use Rattle.meaning.specs.Lister.{listing, listAnswer}
+
+-- 13: "a buffer over 65,536 bytes, or a word buffer not a multiple of 4"
+abbrev pub mostBytes : ℕ
+mostBytes = 65536
+
+-- no "buffer over 65,536 bytes"
+unfoldable pub bufferFine : List ℕ → Bool
+bufferFine b = leb (length b) mostBytes
+
+-- nor "a word buffer not a multiple of 4"
+unfoldable pub wordBufferFine : List ℕ → Bool
+wordBufferFine b = bufferFine b && eqb (length b % 4) 0
+
+-- ---- read
+
+-- the answer on three buffers of words: batch, grants and state. "Order: 13, 1, 2; .."
+unfoldable pub exportedRead : List ℕ → List ℕ → List ℕ → Answer
+exportedRead batch grants st =
+    provided (every wordBufferFine (batch ∷ grants ∷ st ∷ [])) badBuffer (readAnswer (wordsOf batch) (wordsOf grants) (wordsOf st))
+
+-- the bytes of the state after the call
+unfoldable pub exportedReadLeaves : List ℕ → List ℕ → List ℕ → List ℕ
+exportedReadLeaves batch grants st = settle (exportedRead batch grants st) (bytesOf (readLeaves (wordsOf batch) (wordsOf grants) (wordsOf st))) st
+
+-- ---- write
+
+-- the answer on three buffers of words: state, grants and output, whose room is counted in words
+unfoldable pub exportedWrite : List ℕ → List ℕ → List ℕ → Answer
+exportedWrite st grants out =
+    provided (every wordBufferFine (st ∷ grants ∷ out ∷ [])) badBuffer (writeAnswer (wordsOf st) (wordsOf grants) (length out / 4))
+
+-- the bytes of the output after the call
+unfoldable pub exportedWriteLeaves : List ℕ → List ℕ → List ℕ → List ℕ
+exportedWriteLeaves st grants out = settle (exportedWrite st grants out) (over (bytesOf (written (wordsOf st))) out) out
+
+-- ---- list
+
+-- the answer on a buffer of words, the state, and one of bytes, the output
+unfoldable pub exportedList : List ℕ → List ℕ → Answer
+exportedList st out = provided (wordBufferFine st && bufferFine out) badBuffer (listAnswer (wordsOf st) (length out))
+
+-- the bytes of the output after the call
+unfoldable pub exportedListLeaves : List ℕ → List ℕ → List ℕ
+exportedListLeaves st out = settle (exportedList st out) (over (listing (wordsOf st)) out) out

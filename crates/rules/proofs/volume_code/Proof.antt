@@ -1,0 +1,15 @@
+-- `rules::volume_code` meets its contract: the range tells the bound.
+-- Assumes nothing.
+use Rattle.laws.proofs.Arms.{tests}
+use Rattle.rules.proofs.Codes.{at-most}
+use Rattle.rules.proofs.volume_code.Statement.{statement}
+use Rattle.rules.proofs.volume_code.Tie as tie
+
+returns : tie.Need-returns
+returns c = search (at-most, tests)
+
+returns-2 : tie.Need-returns-2
+returns-2 c = search tests
+
+pub volume-code-spec : {M : Type 1} → statement M
+volume-code-spec = tie.close (tie.spec returns returns-2)
