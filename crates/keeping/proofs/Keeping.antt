@@ -2,7 +2,7 @@
 -- Assumes nothing.
 use mathlib.Core.Path.{_≡_, refl, sym, _∙_}
 use mathlib.Core.Logic.{_≢_}
-use mathlib.Core.Bool.{Bool, _&&_, _||_, false, or-assoc, or-false, and-false}
+use mathlib.Core.Bool.{Bool, _&&_, _||_, true, false, or-assoc, or-false, and-false}
 use mathlib.Core.List.{List, [], _∷_}
 use Prim.Native.Nat.{ℕ, zero, suc, _+_, _-_, _≤_, _<_}
 use native.Mathlib.Omega.{arith}
@@ -12,7 +12,7 @@ use lib.ListN.{length, getD, set, length-set}
 use lib.Seq.{getD-set-same, getD-set-other}
 use borrow.Author.Tests.{eq-eqb, ne-eqb, le-leb, lt-leb}
 use Rattle.laws.specs.Lists.{some}
-use Rattle.laws.proofs.Tests.{true-of}
+use Rattle.laws.proofs.Tests.{true-of, holds-of}
 use Rattle.meaning.specs.Grants.{Grant, mostGrants, grantsOf, grantsFine, covers, granted, termsOf}
 use Rattle.grants.specs.Kept.{Keeps, Bounded, coversAt, coveredFrom, coveredIn, partOf}
 use Rattle.grants.proofs.Keeping.{same-test}
@@ -178,3 +178,12 @@ keeps ws starts lasts s l fine =
       record { targets = each 1 (omega arith) (omega arith); firsts = each 2 (omega arith) (omega arith); seconds = each 3 (omega arith) (omega arith) },
       λ role high. omega (arith, after .room .inside role high),
     )
+
+-- what `keep` leaves of a list in the room for starts, lasts and bounds
+abbrev pub KeptFrom : List ℕ → List ℕ → List ℕ → List ℕ → List ℕ → List ℕ → Type 0
+KeptFrom ws starts lasts s l b = (s ≡ keptAfter ws starts lasts .starts) × ((l ≡ keptAfter ws starts lasts .lasts) × (b ≡ keptAfter ws starts lasts .bounds))
+
+-- keeps a list that keeps its rules
+pub kept-after : (ws starts lasts : List ℕ) → length starts ≡ mostGrants → length lasts ≡ mostGrants → grantsFine ws ≡ true → {s l b : List ℕ}
+    → KeptFrom ws starts lasts s l b → Keeps (termsOf ws) s l b × Bounded b
+kept-after ws starts lasts ns nl f kept = rw (kept .0, kept .1 .0, kept .1 .1) (keeps ws starts lasts ns nl (holds-of f))

@@ -13,14 +13,13 @@ use Rattle.laws.proofs.Tests.{holds-of}
 use Rattle.meaning.specs.declared.Kind.the-variants.{Setting}
 use Rattle.meaning.specs.declared.Answer.{Answer}
 use Rattle.meaning.specs.Words.{wordsOf, bytesOf}
-use Rattle.meaning.specs.Grants.{termsOf, mostGrants, grantsFine}
+use Rattle.meaning.specs.Grants.{Terms, termsOf, mostGrants, grantsFine}
 use Rattle.meaning.specs.State.{stateWords, wellFormed, applyAll}
 use Rattle.meaning.specs.Positions.{writesOf}
 use Rattle.meaning.specs.Answers.{badState, badGrants, answer, settle}
 use Rattle.meaning.specs.Reader.{batchAnswer, readAnswer, readLeaves}
-use Rattle.grants.specs.Kept.{Bounded, Keeps}
-use Rattle.keeping.specs.Keeping.{keptAfter}
-use Rattle.keeping.proofs.Keeping.{keeps}
+use Rattle.grants.specs.Kept.{Keeps}
+use Rattle.keeping.proofs.Keeping.{KeptFrom, kept-after}
 use Rattle.bodies.specs.Passes.{answerOf}
 use Rattle.packets.specs.Packets.{packetsFrom}
 use Rattle.packets.proofs.Packets.{answered, wrote, same-size}
@@ -29,11 +28,6 @@ use Rattle.packets.proofs.Packets.{answered, wrote, same-size}
 pub whole : (st : List ℕ) → wellFormed st ≡ true → length st ≡ stateWords
 unfolding wellFormed
 whole st e = eqb-yes (and-yes (eqb (length st) stateWords) _ (holds-of e) .0)
-
--- what was kept of a list that keeps its rules
-pub kept-list : (ws starts lasts : List ℕ) → length starts ≡ mostGrants → length lasts ≡ mostGrants → grantsFine ws ≡ true → {s l b : List ℕ}
-    → s ≡ keptAfter ws starts lasts .starts → l ≡ keptAfter ws starts lasts .lasts → b ≡ keptAfter ws starts lasts .bounds → Keeps (termsOf ws) s l b × Bounded b
-kept-list ws starts lasts ns nl f es el eb = rw (es, el, eb) (keeps ws starts lasts ns nl (holds-of f))
 
 -- ---- the answer and the bytes
 
@@ -55,9 +49,17 @@ module _ (batch grants bytes : List ℕ) where
   unfolding readAnswer
   grants-refused e f = rw (e, f) (refl, refl)
 
-  module _ (e : wellFormed st ≡ true) (f : grantsFine (wordsOf grants) ≡ true) {own : List ℕ} (loaded : own ≡ st) {a : Answer} {after : List ℕ}
-      (ea : a ≡ answerOf (packetsFrom (termsOf (wordsOf grants)) 0 Setting 0 (wordsOf batch) own))
-      (el : after ≡ packetsFrom (termsOf (wordsOf grants)) 0 Setting 0 (wordsOf batch) own .state) where
+  -- the state is copied, the grants are kept, and the packets are read under whatever is kept so
+  module _ (e : wellFormed st ≡ true) (f : grantsFine (wordsOf grants) ≡ true) {own : List ℕ} (loaded : own ≡ st) (starts lasts : List ℕ) {s l b : List ℕ}
+      (ns : length starts ≡ mostGrants) (nl : length lasts ≡ mostGrants) (kept : KeptFrom (wordsOf grants) starts lasts s l b) {a : Answer} {after : List ℕ}
+      (read : ((g : Terms) → Keeps g s l b → a ≡ answerOf (packetsFrom g 0 Setting 0 (wordsOf batch) own))
+      × ((g : Terms) → Keeps g s l b → after ≡ packetsFrom g 0 Setting 0 (wordsOf batch) own .state)) where
+    ea : a ≡ answerOf (packetsFrom (termsOf (wordsOf grants)) 0 Setting 0 (wordsOf batch) own)
+    ea = read .0 _ (kept-after (wordsOf grants) starts lasts ns nl f kept .0)
+
+    el : after ≡ packetsFrom (termsOf (wordsOf grants)) 0 Setting 0 (wordsOf batch) own .state
+    el = read .1 _ (kept-after (wordsOf grants) starts lasts ns nl f kept .0)
+
     told : a ≡ batchAnswer (termsOf (wordsOf grants)) (wordsOf batch)
     told = ea ∙ answered (termsOf (wordsOf grants)) (wordsOf batch) own
 

@@ -11,20 +11,16 @@ use lib.ListN.{length}
 use mir.Facts.{eqb-yes}
 use Rattle.laws.specs.Lists.{every, from}
 use Rattle.laws.proofs.Lists.{every-from}
-use Rattle.laws.proofs.Tests.{holds-of}
 use Rattle.meaning.specs.declared.Found.{Found}
 use Rattle.meaning.specs.declared.Found.the-variants.{At, Missing}
 use Rattle.meaning.specs.declared.Answer.{Answer}
 use Rattle.meaning.specs.Registers.{cells, firstVideo, cell, targetGroup, stage, sample, overlay, scaler, sections, registerAmong, registerIn, registerAt}
-use Rattle.meaning.specs.Grants.{Terms, mostGrants, grantsFine, termsOf}
+use Rattle.meaning.specs.Grants.{Terms, grantsFine, termsOf}
 use Rattle.meaning.specs.State.{marked, wellFormed}
 use Rattle.meaning.specs.Answers.{badState, badGrants, noRoom, notWritable, success, answer}
 use Rattle.meaning.specs.Writer.{written, needFor, lowestBad, exceptAt, writeAnswer}
 use Rattle.meaning.proofs.Writing.{need-is-length}
 use Rattle.meaning.proofs.Round.{Lowest, lowest-told}
-use Rattle.grants.specs.Kept.{Keeps, Bounded}
-use Rattle.keeping.specs.Keeping.{keptAfter}
-use Rattle.keeping.proofs.Keeping.{keeps}
 use Rattle.emitter.specs.Emitted.{Narrow}
 use Rattle.search.specs.Search.{orEnd, lowest}
 
@@ -57,13 +53,6 @@ pub none-narrow : (g : Terms) (st : List ℕ) {low : ℕ} → low ≡ lowest g s
 none-narrow g st e l c h m =
     let fine : Lowest g st 0 cells Missing = rw (told g st e .1 l) at (lowest-told g st 0 cells) in
     rw (wide-3D c h) at (fine c (omega arith) (omega arith) m .narrow)
-
--- ---- the grants, after `keep`
-
-pub kept-after : (ws starts lasts : List ℕ) {s l b : List ℕ} → length starts ≡ mostGrants → length lasts ≡ mostGrants → grantsFine ws ≡ true
-    → s ≡ keptAfter ws starts lasts .starts → l ≡ keptAfter ws starts lasts .lasts → b ≡ keptAfter ws starts lasts .bounds
-    → Keeps (termsOf ws) s l b × Bounded b
-kept-after ws starts lasts n m f es el eb = rw (es, el, eb) (keeps ws starts lasts n m (holds-of f))
 
 -- ---- the answer
 

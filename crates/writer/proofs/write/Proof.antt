@@ -13,7 +13,8 @@ use Rattle.meaning.specs.State.{stateWords, wellFormed}
 use Rattle.grants.specs.Kept.{Keeps, Bounded}
 use Rattle.search.specs.Search.{lowest}
 use Rattle.meaning.proofs.States.{formed-iff}
-use Rattle.writer.proofs.Answers.{none-narrow, kept-after, as-written, room-for, refused-state, refused-grants, refused-cell, refused-room, done}
+use Rattle.keeping.proofs.Keeping.{kept-after}
+use Rattle.writer.proofs.Answers.{none-narrow, as-written, room-for, refused-state, refused-grants, refused-cell, refused-room, done}
 use borrow.Author.Needs.{needs}
 use Rattle.writer.proofs.write.Statement.{statement}
 use Rattle.writer.proofs.write.Tie as tie
@@ -58,7 +59,7 @@ fine c = told-true (c .before .keep .ensures .0) (c .if2 .left)
 
 kept : (c : tie.Else2) → let k = c .before .keep .last in
     Keeps (termsOf (wordsOf (start c .args .grants .now))) (k .1 .0) (k .1 .1 .0) (k .1 .1 .1 .0) × Bounded (k .1 .1 .1 .0)
-kept c = let e = c .before .keep .ensures in kept-after _ _ _ refl refl (fine c) (e .1 .0) (e .1 .1 .0) (e .1 .1 .1)
+kept c = let e = c .before .keep .ensures in kept-after _ _ _ refl refl (fine c) (e .1)
 
 lowest-bad-requires : tie.Need-lowest-bad-requires
 lowest-bad-requires c κs = let e = c .before .before .before in (holds-of (formed (else-1 e)), kept e .1)
