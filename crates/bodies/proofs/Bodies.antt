@@ -25,20 +25,20 @@ use Rattle.meaning.specs.Answers.{success}
 use Rattle.meaning.specs.Reader.{valueReason, wordReason}
 use Rattle.meaning.proofs.Bytes.{length-words}
 use Rattle.meaning.proofs.Table.{Of}
-use Rattle.meaning.proofs.Stored.{Wide, found-3D, data-small}
+use Rattle.meaning.proofs.EachWrite.{Wide, found-3D, data-small}
 use Rattle.registers.specs.Names.{offsetOf, rowFrom}
 use Rattle.registers.proofs.Names.{named-video, row-next}
 use Rattle.grants.specs.declared.Part.{Part}
 use Rattle.grants.specs.Kept.{Granting}
 use Rattle.grants.proofs.Keeping.{part-some}
-use Rattle.rows.specs.Scalers.{Scaler, first, second}
+use Rattle.rows_video.specs.Scalers.{Scaler, first, second}
 use Rattle.headers.specs.declared.Group.{Group}
 use Rattle.headers.specs.Told.{cellIn, IsGroup, Leads}
 use Rattle.headers.proofs.Groups.{some-setting}
 use Rattle.judging.specs.declared.Judged.{Judged}
 use Rattle.judging.specs.Judged.{judgedIn}
 use Rattle.judging.proofs.Judging.{reason-judged, cell-judged}
-use Rattle.bodies.specs.Passes.{Passed, passed, answerOf, orElse, stored, bodyFrom}
+use Rattle.bodies.specs.Passes.{Passed, passed, answerOf, orElse, applied, bodyFrom}
 
 -- ---- a reason that is 0, and one that is not
 
@@ -55,9 +55,9 @@ else-stop (suc r) i st more n = refl
 inside : {f : Found} {c : Cell} → f ≡ At c → Of (Wide 24) f → c .0 < cells
 inside e w = (rw e at w) .0
 
-stored-at : (st : List ℕ) (v : ℕ) {f : Found} {c : Cell} {left : List ℕ} → f ≡ At c → left ≡ apply st (record { cell = c; value = v }) → left ≡ applyAll st (writeTo f v)
+applied-at : (st : List ℕ) (v : ℕ) {f : Found} {c : Cell} {left : List ℕ} → f ≡ At c → left ≡ apply st (record { cell = c; value = v }) → left ≡ applyAll st (writeTo f v)
 unfolding applyAll
-stored-at st v e h = rw e h
+applied-at st v e h = rw e h
 
 -- ---- a loop over the words up to a place: to read on from here is to read the whole
 
@@ -66,11 +66,11 @@ module _ (g : Terms) (ws : List ℕ) (target : Passed) (end : ℕ) (whole : end 
   abbrev word : ℕ
   word = getD ws at 0
 
-  here : at < end → orElse (wordReason g kind word) at st (bodyFrom g (at + 1) (after kind word) (slice (at + 1) end ws) (stored kind word st)) ≡ target
+  here : at < end → orElse (wordReason g kind word) at st (bodyFrom g (at + 1) (after kind word) (slice (at + 1) end ws) (applied kind word st)) ≡ target
   unfolding bodyFrom
   here l = rw (add-one at) (sym (ap (λ (x : List ℕ). bodyFrom g at kind x st) (slice-cons at end ws 0 l whole)) ∙ inv)
 
-  pub body-on : at < end → {r : ℕ} {next : Kind} {left : List ℕ} → r ≡ wordReason g kind word → r ≡ 0 → after kind word ≡ next → left ≡ stored kind word st
+  pub body-on : at < end → {r : ℕ} {next : Kind} {left : List ℕ} → r ≡ wordReason g kind word → r ≡ 0 → after kind word ≡ next → left ≡ applied kind word st
       → bodyFrom g (at + 1) next (slice (at + 1) end ws) left ≡ target
   body-on l asked z on left = rw (← on, left) (sym (else-on at st (sym asked ∙ z)) ∙ here l)
 
@@ -107,9 +107,9 @@ module _ {G : Group} (a : SubAddress) (d : ℕ) {j : Judged} where
     unfolding wordReason
     parameter-asked = rw (is-named, sym ed) (reason-judged g d (cellIn G a) told)
 
-    pub parameter-stored : j .reason ≡ 0 → (st : List ℕ) {left : List ℕ} → left ≡ apply st (record { cell = j .cell; value = d }) → left ≡ stored (Parameter s) w st
+    pub parameter-applied : j .reason ≡ 0 → (st : List ℕ) {left : List ℕ} → left ≡ apply st (record { cell = j .cell; value = d }) → left ≡ applied (Parameter s) w st
     unfolding goes carries
-    parameter-stored z st h = rw (is-named, sym ed) (stored-at st d (cell-judged g d (cellIn G a) told z) h)
+    parameter-applied z st h = rw (is-named, sym ed) (applied-at st d (cell-judged g d (cellIn G a) told z) h)
 
   -- the cell of a value that is stored is one of the state, whatever is granted
   pub parameter-inside : IsGroup G → (starts lasts : List ℕ) (part : Part) → ((g : Terms) → Granting g 1 starts lasts part → j ≡ judgedIn g (cellIn G a) d)
@@ -146,9 +146,9 @@ module _ (g : Terms) (c j : ℕ) (low : 84 ≤ c) (high : c < cells) (row : j < 
   unfolding wordReason
   word-asked e = rw found e
 
-  pub word-stored : (st : List ℕ) {left : List ℕ} → left ≡ apply st (record { cell = cell d; value = w }) → left ≡ stored (Video (nth (offsetOf (cell c)) j)) w st
+  pub word-applied : (st : List ℕ) {left : List ℕ} → left ≡ apply st (record { cell = cell d; value = w }) → left ≡ applied (Video (nth (offsetOf (cell c)) j)) w st
   unfolding goes carries
-  word-stored st e = stored-at st w found e
+  word-applied st e = applied-at st w found e
 
 -- ---- rows of video registers
 
@@ -162,10 +162,6 @@ pub row-scaler : (c role i : ℕ) → Scaler c role → i < 7 → rowFrom (cell 
 unfolding rowFrom
 row-scaler _ _ i first h = let e : 94 - (87 + i) ≡ 7 - i = omega arith in rw (lt-leb (87 + i) 86 (omega arith), le-leb (87 + i) 93 (omega arith), e)
 row-scaler _ _ i second h = let e : 101 - (94 + i) ≡ 7 - i = omega arith in rw (lt-leb (94 + i) 86 (omega arith), lt-leb (94 + i) 93 (omega arith), e)
-
-pub scaler-cells : (c role : ℕ) → Scaler c role → (84 ≤ c) × (c + 7 ≤ cells)
-scaler-cells _ _ first = (omega arith, omega arith)
-scaler-cells _ _ second = (omega arith, omega arith)
 
 -- ---- places of a batch in bytes
 

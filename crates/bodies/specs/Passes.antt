@@ -34,10 +34,10 @@ orElse zero i st more = more
 orElse (suc r) i st more = passed (suc r) i st
 
 -- the state after a word of a packet's body
-abbrev pub stored : Kind → ℕ → List ℕ → List ℕ
-stored kind w st = applyAll st (writeTo (goes kind w) (carries kind w))
+abbrev pub applied : Kind → ℕ → List ℕ → List ℕ
+applied kind w st = applyAll st (writeTo (goes kind w) (carries kind w))
 
 -- words of one packet's body, the first at place i: the first reason and its place, or 0 and the place after them
 unfoldable pub bodyFrom : Terms → ℕ → Kind → List ℕ → List ℕ → Passed
 bodyFrom g i kind [] st = passed success i st
-bodyFrom g i kind (w ∷ ws) st = orElse (wordReason g kind w) i st (bodyFrom g (suc i) (after kind w) ws (stored kind w st))
+bodyFrom g i kind (w ∷ ws) st = orElse (wordReason g kind w) i st (bodyFrom g (suc i) (after kind w) ws (applied kind w st))

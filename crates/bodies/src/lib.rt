@@ -12,7 +12,7 @@ ghost use Rattle.meaning.specs.State as state_of;
 ghost use Rattle.meaning.specs.Answers.{success, answer};
 ghost use Rattle.registers.specs.Names.{offsetOf};
 ghost use Rattle.grants.specs.Kept.{Granting};
-ghost use Rattle.rows.specs.Scalers.{Scaler, IsScaler};
+ghost use Rattle.rows_video.specs.Scalers.{Scaler, IsScaler};
 ghost use Rattle.headers.specs.Told.{IsGroup, Leads};
 ghost use Rattle.bodies.specs.Passes.{answerOf, bodyFrom, Places};
 use grants::Part;
@@ -28,7 +28,7 @@ use meaning::State;
 // A write sets the cell's value and marks it.
 fn store(state: &mut State, cell: Cell, value: u32)
     requires inside { ⌜ cell .0 < cells ⌝ }
-    ensures stored { λ _. ⌜ now (state .exit) ≡ state_of.apply (now (state .entry)) (record { cell = cell; value = value }) ⌝ }
+    ensures applied { λ _. ⌜ now (state .exit) ≡ state_of.apply (now (state .entry)) (record { cell = cell; value = value }) ⌝ }
 {
     let c = cell.0;
     state[c] = value;
@@ -58,7 +58,7 @@ pub fn take_parameters(
 ) -> Answer
     requires places { ⌜ Places first end (now batch) ⌝ }
     requires group { ⌜ IsGroup group ⌝ }
-    requires kept { ⌜ part .to ≤ mostGrants ⌝ }
+    requires inside { ⌜ part .to ≤ mostGrants ⌝ }
     ensures answer { λ r. ⌜ ((g : Terms) (s : ℕ) → Leads s group → Granting g 1 (now (starts .entry)) (now (lasts .entry)) part → r ≡ answerOf (bodyFrom g first (kinds.Parameter s) (slice first end (wordsOf (now (batch .entry)))) (now (state .entry)))) ⌝ }
     ensures state { λ _. ⌜ ((g : Terms) (s : ℕ) → Leads s group → Granting g 1 (now (starts .entry)) (now (lasts .entry)) part → now (state .exit) ≡ bodyFrom g first (kinds.Parameter s) (slice first end (wordsOf (now (batch .entry)))) (now (state .entry)) .state) ⌝ }
 {
@@ -127,7 +127,7 @@ pub fn take_scaler(
     requires places { ⌜ Places first end (now batch) ⌝ }
     requires row { ⌜ index + (end - first) ≤ 7 ⌝ }
     requires scaler { ⌜ IsScaler (base .0) ⌝ }
-    requires kept { ⌜ part .to ≤ mostGrants ⌝ }
+    requires inside { ⌜ part .to ≤ mostGrants ⌝ }
     ensures answer { λ r. ⌜ ((g : Terms) (role : ℕ) → Scaler (base .0) role → Granting g role (now (starts .entry)) (now (lasts .entry)) part → r ≡ answerOf (bodyFrom g first (kinds.Video (offsetOf (cell (base .0 + index)))) (slice first end (wordsOf (now (batch .entry)))) (now (state .entry)))) ⌝ }
     ensures state { λ _. ⌜ ((g : Terms) (role : ℕ) → Scaler (base .0) role → Granting g role (now (starts .entry)) (now (lasts .entry)) part → now (state .exit) ≡ bodyFrom g first (kinds.Video (offsetOf (cell (base .0 + index)))) (slice first end (wordsOf (now (batch .entry)))) (now (state .entry)) .state) ⌝ }
 {

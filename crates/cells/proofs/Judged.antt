@@ -9,7 +9,7 @@ use Rattle.meaning.specs.Grants.{Terms}
 use Rattle.meaning.specs.Reader.{valueReason}
 use Rattle.grants.specs.declared.Part.{Part}
 use Rattle.grants.specs.Kept.{Granting}
-use Rattle.rows.specs.Scalers.{Scaler, first, second}
+use Rattle.rows_video.specs.Scalers.{Scaler, first, second}
 use Rattle.cells.specs.declared.Row.{Row}
 use Rattle.cells.specs.declared.Row.the-variants as rows
 use Rattle.cells.specs.Rows.{RowOf}

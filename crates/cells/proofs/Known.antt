@@ -11,8 +11,9 @@ use Rattle.laws.proofs.Tests.{holds-of}
 use Rattle.meaning.specs.Registers.{cells, cell, Register, nothing, alphaConstants, location, levels, filters, mapping, alphaSelect, targetGroup, sample, scaler, registerAt}
 use Rattle.meaning.specs.Grants.{Terms}
 use Rattle.meaning.specs.Reader.{unless, valueReason}
-use Rattle.rows.specs.Scalers.{Scaler, first, second}
-use Rattle.rows.proofs.Registers.{own-target, at-stage, own-sample, at-overlay, at-alpha-select, own-scaler}
+use Rattle.rows_3d.proofs.Registers.{own-target, at-stage, own-sample}
+use Rattle.rows_video.proofs.Scalers.{scaler-cells}
+use Rattle.rows_video.proofs.Registers.{at-overlay, at-alpha-select, own-scaler}
 use Rattle.cells.specs.declared.Row.{Row}
 use Rattle.cells.specs.Rows.{RowOf, takesZero, widthOf}
 use Rattle.cells.specs.Rows as kinds
@@ -40,11 +41,6 @@ at row c {r} low own wide room zero = record {
   zero = λ t g. rw own (takes g r (zero t));
 }
 
--- a scaler's registers are in the table
-pub in-table : {c role : ℕ} → Scaler c role → c + 6 < cells
-in-table first = omega arith
-in-table second = omega arith
-
 pub known : {row : Row} {c role : ℕ} → RowOf row c role → Known row c
 unfolding takesZero widthOf Takes targetGroup sample scaler alphaConstants location levels filters mapping alphaSelect oneOf some
 known kinds.alpha-constants = at _ 0 (omega arith) (own-target .0) refl (omega arith) (λ t. (refl, refl))
@@ -57,10 +53,10 @@ known (kinds.filters n h) = at _ _ (omega arith) (own-sample n h .1 .0) refl (om
 known (kinds.mapping n h) = at _ _ (omega arith) (own-sample n h .1 .1 .0) refl (omega arith) (λ t. (refl, refl))
 known (kinds.overlay c l h) = at _ c (omega arith) (at-overlay c l h) refl (omega arith) (λ t. (refl, refl))
 known kinds.alpha-select = at _ 86 (omega arith) at-alpha-select refl (omega arith) (λ t. (refl, refl))
-known (kinds.deinterlace c r s) = let l = in-table s in at _ _ (omega arith) (own-scaler c r s .0) refl (omega arith) (λ t. (refl, refl))
-known (kinds.sub-picture c r s) = let l = in-table s in at _ _ (omega arith) (own-scaler c r s .1 .0) refl (omega arith) (λ t. (refl, refl))
-known (kinds.first-address c r s) = let l = in-table s in at _ _ (omega arith) (own-scaler c r s .1 .1 .0) refl (omega arith) (λ t. absurd (holds-of t))
-known (kinds.second-address c r s) = let l = in-table s in at _ _ (omega arith) (own-scaler c r s .1 .1 .1 .0) refl (omega arith) (λ t. absurd (holds-of t))
-known (kinds.destination-stride c r s) = let l = in-table s in at _ _ (omega arith) (own-scaler c r s .1 .1 .1 .1 .0) refl (omega arith) (λ t. (refl, refl))
-known (kinds.source-stride c r s) = let l = in-table s in at _ _ (omega arith) (own-scaler c r s .1 .1 .1 .1 .1 .0) refl (omega arith) (λ t. (refl, refl))
-known (kinds.third-address c r s) = let l = in-table s in at _ _ (omega arith) (own-scaler c r s .1 .1 .1 .1 .1 .1 .0) refl (omega arith) (λ t. absurd (holds-of t))
+known (kinds.deinterlace c r s) = let l = scaler-cells s in at _ _ (omega arith) (own-scaler c r s .0) refl (omega arith) (λ t. (refl, refl))
+known (kinds.sub-picture c r s) = let l = scaler-cells s in at _ _ (omega arith) (own-scaler c r s .1 .0) refl (omega arith) (λ t. (refl, refl))
+known (kinds.first-address c r s) = let l = scaler-cells s in at _ _ (omega arith) (own-scaler c r s .1 .1 .0) refl (omega arith) (λ t. absurd (holds-of t))
+known (kinds.second-address c r s) = let l = scaler-cells s in at _ _ (omega arith) (own-scaler c r s .1 .1 .1 .0) refl (omega arith) (λ t. absurd (holds-of t))
+known (kinds.destination-stride c r s) = let l = scaler-cells s in at _ _ (omega arith) (own-scaler c r s .1 .1 .1 .1 .0) refl (omega arith) (λ t. (refl, refl))
+known (kinds.source-stride c r s) = let l = scaler-cells s in at _ _ (omega arith) (own-scaler c r s .1 .1 .1 .1 .1 .0) refl (omega arith) (λ t. (refl, refl))
+known (kinds.third-address c r s) = let l = scaler-cells s in at _ _ (omega arith) (own-scaler c r s .1 .1 .1 .1 .1 .1 .0) refl (omega arith) (λ t. absurd (holds-of t))

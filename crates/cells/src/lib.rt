@@ -40,26 +40,26 @@ pub enum Row {
 // row's addresses, if it has any.
 fn row_reason(row: Row, value: u32, starts: &Spans, lasts: &Spans, part: Part) -> u32
     requires narrow { ⌜ value < 2 ^ widthOf row ⌝ }
-    requires kept { ⌜ part .to ≤ mostGrants ⌝ }
+    requires inside { ⌜ part .to ≤ mostGrants ⌝ }
     ensures reason { λ r. ⌜ ((g : Terms) (c role : ℕ) → RowOf row c role → ((role ≡ 0 → ⊥) → Granting g role (now (starts .entry)) (now (lasts .entry)) part) → r ≡ valueReason g (registerAt (cell c)) value) ⌝ }
 {
     match row {
-        Row::AlphaConstants => rows::alpha_constants_reason(value),
-        Row::TargetAddress => rows::target_address_reason(value, starts, lasts, part),
-        Row::Location => rows::location_reason(value),
-        Row::Format => rows::format_reason(value),
-        Row::Stage => rows::stage_reason(value),
-        Row::Levels => rows::levels_reason(value),
-        Row::Filters => rows::filters_reason(value),
-        Row::Mapping => rows::mapping_reason(value),
-        Row::Overlay => rows::overlay_reason(value),
-        Row::AlphaSelect => rows::alpha_select_reason(value),
-        Row::Deinterlace => rows::deinterlace_reason(value),
-        Row::SubPicture => rows::sub_picture_reason(value),
-        Row::FirstAddress => rows::first_address_reason(value, starts, lasts, part),
-        Row::Address => rows::address_reason(value, starts, lasts, part),
-        Row::DestinationStride => rows::destination_stride_reason(value),
-        Row::SourceStride => rows::source_stride_reason(value),
+        Row::AlphaConstants => rows_3d::alpha_constants_reason(value),
+        Row::TargetAddress => rows_3d::target_address_reason(value, starts, lasts, part),
+        Row::Location => rows_3d::location_reason(value),
+        Row::Format => rows_3d::format_reason(value),
+        Row::Stage => rows_3d::stage_reason(value),
+        Row::Levels => rows_3d::levels_reason(value),
+        Row::Filters => rows_3d::filters_reason(value),
+        Row::Mapping => rows_3d::mapping_reason(value),
+        Row::Overlay => rows_video::overlay_reason(value),
+        Row::AlphaSelect => rows_video::alpha_select_reason(value),
+        Row::Deinterlace => rows_video::deinterlace_reason(value),
+        Row::SubPicture => rows_video::sub_picture_reason(value),
+        Row::FirstAddress => rows_video::first_address_reason(value, starts, lasts, part),
+        Row::Address => rows_video::address_reason(value, starts, lasts, part),
+        Row::DestinationStride => rows_video::destination_stride_reason(value),
+        Row::SourceStride => rows_video::source_stride_reason(value),
     }
 }
 
@@ -113,7 +113,7 @@ fn vacant(state: &[u8], cell: Cell, row: Row, value: u32) -> bool
 pub fn fine(state: &[u8], cell: Cell, row: Row, starts: &Spans, lasts: &Spans, part: Part) -> bool
     requires formed { ⌜ T (wellFormed (wordsOf (now state))) ⌝ }
     requires row { ⌜ IsRow row (cell .0) ⌝ }
-    requires kept { ⌜ part .to ≤ mostGrants ⌝ }
+    requires inside { ⌜ part .to ≤ mostGrants ⌝ }
     ensures fine { λ r. ⌜ ((g : Terms) (role : ℕ) → RowOf row (cell .0) role → ((role ≡ 0 → ⊥) → Granting g role (now (starts .entry)) (now (lasts .entry)) part) → r ≡ writable g (wordsOf (now (state .entry))) cell) ⌝ }
 {
     let value = states::value(state, cell);

@@ -81,3 +81,8 @@ kept-some starts lasts bounds =
       record { grants = one 1 ++ (one 2 ++ one 3) },
       record { targets = λ a. all 1 a ∙ or-false (covered 1 a); firsts = λ a. all 2 a ∙ or-false (covered 2 a); seconds = all 3 },
     )
+
+-- an address that the part covers is granted
+pub as-granted : (g : Terms) (role : ℕ) (starts lasts : List ℕ) (part : Part) (a : ℕ) {b : Bool} → Granting g role starts lasts part → b ≡ coveredIn starts lasts part a
+    → b ≡ granted (g .grants) role a
+as-granted g role starts lasts part a given e = e ∙ sym (given a)

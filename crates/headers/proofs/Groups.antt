@@ -6,10 +6,11 @@ use Prim.Native.Nat.{ℕ, _+_, _*_, _-_, _/_, _%_, _<_, _^_}
 use native.Mathlib.Omega.{arith}
 use native.Mathlib.Decide.{ℕ-discrete, decLt}
 use borrow.Author.Tests.{eq-eqb, ne-eqb, le-leb, lt-leb}
+use Rattle.laws.specs.Lists.{some}
 use Rattle.meaning.specs.declared.SubAddress.{SubAddress}
 use Rattle.meaning.specs.Words.{paraAdr, paraOS, paraType, paraSubType}
 use Rattle.meaning.specs.Registers.{cell, find3D}
-use Rattle.meaning.specs.Batch.{typeAllowed, allowed}
+use Rattle.meaning.specs.Batch.{allowedTypes, typeAllowed, allowed}
 use Rattle.registers.proofs.Tree.{tree3D, by-tree}
 use Rattle.headers.specs.declared.Group.{Group}
 use Rattle.headers.specs.declared.Group.the-variants.{Target, Stage, Sample, Nothing}
@@ -59,7 +60,7 @@ forbidden s none =
 
 module _ (s : ℕ) where
   leads-target : s % 0x1000000 ≡ 0x10000 → paraSubType s ≡ 0x00 → Leads s Target
-  unfolding typeAllowed
+  unfolding typeAllowed allowedTypes some
   leads-target e u = record {
     fine = allowed-by s 0x01 (omega arith) e ∙ rw u;
     group = target;
@@ -68,7 +69,7 @@ module _ (s : ℕ) where
 
   module _ (e : s % 0x1000000 ≡ 0x20000) (n : ℕ) (h : n < 16) where
     leads-stage : paraSubType s ≡ n → Leads s (Stage (cell (4 + 2 * n)))
-    unfolding typeAllowed
+    unfolding typeAllowed allowedTypes some
     leads-stage u = record {
       fine = allowed-by s 0x02 (omega arith) e ∙ rw (u, le-leb 0x00 n (omega arith), le-leb n 0x0F (omega arith));
       group = stage n h;
@@ -76,7 +77,7 @@ module _ (s : ℕ) where
     }
 
     leads-sample : paraSubType s ≡ 0x20 + n → Leads s (Sample (cell (36 + 3 * n)))
-    unfolding typeAllowed
+    unfolding typeAllowed allowedTypes some
     leads-sample u = record {
       fine = allowed-by s 0x02 (omega arith) e ∙ rw (u, le-leb 0x00 (0x20 + n) (omega arith), lt-leb (0x20 + n) 0x0F (omega arith), le-leb 0x20 (0x20 + n) (omega arith), le-leb (0x20 + n) 0x2F (omega arith));
       group = sample n h;
@@ -85,7 +86,7 @@ module _ (s : ℕ) where
 
 -- a sub-type of 02
 names-02 : (s : ℕ) → s % 0x1000000 ≡ 0x20000 → (u : ℕ) → paraSubType s ≡ u → Names s (groupOf02 u)
-unfolding groupOf02 typeAllowed
+unfolding groupOf02 typeAllowed allowedTypes some
 names-02 s e u p =
     elim (decLt 0x0F u) [
       | no l ↦ rw (le-leb u 0x0F (omega arith)) (leads-stage s e u (omega arith) p)
@@ -102,11 +103,14 @@ names-02 s e u p =
 
 -- no other type, and no other sub-type of 01
 none-allowed : (t u : ℕ) → (t ≡ 0x02 → ⊥) → (t ≡ 0x01 → u ≡ 0x00 → ⊥) → typeAllowed t u ≡ false
-unfolding typeAllowed
+unfolding typeAllowed allowedTypes some
 none-allowed t u n m =
     elim (ℕ-discrete t 0x01) [
       | no e ↦ rw (ne-eqb t 0x01 e, ne-eqb t 0x02 n)
-      | yes e ↦ rw (eq-eqb t 0x01 e, ne-eqb u 0x00 (m e), ne-eqb t 0x02 n)
+      | yes e ↦ elim (decLt 0x00 u) [
+        | yes l ↦ rw (eq-eqb t 0x01 e, le-leb 0x00 u (omega arith), lt-leb u 0x00 l, ne-eqb t 0x02 n)
+        | no l ↦ absurd (m e (omega arith))
+      ]
     ]
 
 sub-type-is : (s : ℕ) → paraSubType s ≡ s / 0x1000000 % 256

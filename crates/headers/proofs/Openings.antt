@@ -20,7 +20,7 @@ use Rattle.meaning.specs.Reader.{unless, headerReason}
 use Rattle.meaning.proofs.Stretches.{kind-3D, kind-video}
 use Rattle.registers.specs.Names.{offsetOf}
 use Rattle.registers.proofs.Rows.{VideoRow, overlay, first, second, register, stays, starts, between, outside}
-use Rattle.rows.specs.Scalers as scalers
+use Rattle.rows_video.specs.Scalers as scalers
 use Rattle.headers.specs.declared.Header.{Header}
 use Rattle.headers.specs.declared.Header.the-variants.{Refused, Setting, Scaler}
 use Rattle.headers.specs.declared.ScalerOffset.{ScalerOffset}

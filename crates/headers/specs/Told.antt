@@ -14,7 +14,7 @@ use Rattle.meaning.specs.Batch.{allowed}
 use Rattle.meaning.specs.Positions.{kindOf}
 use Rattle.meaning.specs.Reader.{headerReason}
 use Rattle.registers.specs.Names.{offsetOf, ranged}
-use Rattle.rows.specs.Scalers as rows
+use Rattle.rows_video.specs.Scalers as rows
 use Rattle.headers.specs.declared.Header.{Header}
 use Rattle.headers.specs.declared.Header.the-variants.{Refused, Setting, Overlay, Scaler}
 use Rattle.headers.specs.declared.Group.{Group}

@@ -5,7 +5,7 @@ ghost use Rattle.meaning.specs.Registers.{firstVideo, cell, registerAt};
 ghost use Rattle.meaning.specs.Grants.{Terms, mostGrants};
 ghost use Rattle.meaning.specs.Reader.{valueReason};
 ghost use Rattle.grants.specs.Kept.{Granting};
-ghost use Rattle.rows.specs.Scalers as scalers;
+ghost use Rattle.rows_video.specs.Scalers as scalers;
 ghost use Rattle.headers.specs.declared.Group.the-variants as groups;
 ghost use Rattle.headers.specs.Told.{cellIn, IsGroup};
 ghost use Rattle.judging.specs.Judged.{judgedIn};
@@ -41,15 +41,18 @@ fn judge_target(
     part: Part,
 ) -> Judged
     requires narrow { ⌜ value < 2 ^ 24 ⌝ }
-    requires kept { ⌜ part .to ≤ mostGrants ⌝ }
+    requires inside { ⌜ part .to ≤ mostGrants ⌝ }
     ensures judged { λ r. ⌜ ((g : Terms) → Granting g 1 (now (starts .entry)) (now (lasts .entry)) part → r ≡ judgedIn g (cellIn groups.Target address) value) ⌝ }
 {
     let a = address.0;
     match a {
-        0x3f => for_cell(rows::alpha_constants_reason(value), 0),
-        0x50 => for_cell(rows::target_address_reason(value, starts, lasts, part), 1),
-        0x51 => for_cell(rows::location_reason(value), 2),
-        0x52 => for_cell(rows::format_reason(value), 3),
+        0x3f => for_cell(rows_3d::alpha_constants_reason(value), 0),
+        0x50 => for_cell(
+            rows_3d::target_address_reason(value, starts, lasts, part),
+            1,
+        ),
+        0x51 => for_cell(rows_3d::location_reason(value), 2),
+        0x52 => for_cell(rows_3d::format_reason(value), 3),
         _ => for_cell(NO_REGISTER, 0),
     }
 }
@@ -61,8 +64,8 @@ fn judge_stage(base: Cell, address: SubAddress, value: u32) -> Judged
 {
     let a = address.0;
     match a {
-        0x50 => for_cell(rows::stage_reason(value), base.0),
-        0x51 => for_cell(rows::stage_reason(value), base.0 + 1),
+        0x50 => for_cell(rows_3d::stage_reason(value), base.0),
+        0x51 => for_cell(rows_3d::stage_reason(value), base.0 + 1),
         _ => for_cell(NO_REGISTER, 0),
     }
 }
@@ -74,9 +77,9 @@ fn judge_sample(base: Cell, address: SubAddress, value: u32) -> Judged
 {
     let a = address.0;
     match a {
-        0x30 => for_cell(rows::levels_reason(value), base.0),
-        0x31 => for_cell(rows::filters_reason(value), base.0 + 1),
-        0x32 => for_cell(rows::mapping_reason(value), base.0 + 2),
+        0x30 => for_cell(rows_3d::levels_reason(value), base.0),
+        0x31 => for_cell(rows_3d::filters_reason(value), base.0 + 1),
+        0x32 => for_cell(rows_3d::mapping_reason(value), base.0 + 2),
         _ => for_cell(NO_REGISTER, 0),
     }
 }
@@ -92,7 +95,7 @@ pub fn judge_parameter(
 ) -> Judged
     requires group { ⌜ IsGroup group ⌝ }
     requires narrow { ⌜ value < 2 ^ 24 ⌝ }
-    requires kept { ⌜ part .to ≤ mostGrants ⌝ }
+    requires inside { ⌜ part .to ≤ mostGrants ⌝ }
     ensures judged { λ r. ⌜ ((g : Terms) → Granting g 1 (now (starts .entry)) (now (lasts .entry)) part → r ≡ judgedIn g (cellIn group address) value) ⌝ }
 {
     match group {
@@ -109,24 +112,24 @@ pub fn overlay_reason(index: usize, value: u32) -> u32
     ensures reason { λ r. ⌜ ((g : Terms) → r ≡ valueReason g (registerAt (cell (firstVideo + index))) value) ⌝ }
 {
     match index {
-        0..=1 => rows::overlay_reason(value),
-        _ => rows::alpha_select_reason(value),
+        0..=1 => rows_video::overlay_reason(value),
+        _ => rows_video::alpha_select_reason(value),
     }
 }
 
 // A word for one of a scaler's registers: 7 to 9.
 pub fn scaler_reason(index: usize, value: u32, starts: &Spans, lasts: &Spans, part: Part) -> u32
     requires seven { ⌜ index < 7 ⌝ }
-    requires kept { ⌜ part .to ≤ mostGrants ⌝ }
+    requires inside { ⌜ part .to ≤ mostGrants ⌝ }
     ensures reason { λ r. ⌜ ((g : Terms) (c role : ℕ) → scalers.Scaler c role → Granting g role (now (starts .entry)) (now (lasts .entry)) part → r ≡ valueReason g (registerAt (cell (c + index))) value) ⌝ }
 {
     match index {
-        0 => rows::deinterlace_reason(value),
-        1 => rows::sub_picture_reason(value),
-        2 => rows::first_address_reason(value, starts, lasts, part),
-        3 => rows::address_reason(value, starts, lasts, part),
-        4 => rows::destination_stride_reason(value),
-        5 => rows::source_stride_reason(value),
-        _ => rows::address_reason(value, starts, lasts, part),
+        0 => rows_video::deinterlace_reason(value),
+        1 => rows_video::sub_picture_reason(value),
+        2 => rows_video::first_address_reason(value, starts, lasts, part),
+        3 => rows_video::address_reason(value, starts, lasts, part),
+        4 => rows_video::destination_stride_reason(value),
+        5 => rows_video::source_stride_reason(value),
+        _ => rows_video::address_reason(value, starts, lasts, part),
     }
 }

@@ -59,6 +59,14 @@ unfolding every from
 from-every f i zero h = tt
 from-every f i (suc n) h = yes-and (f i) _ (h i (omega arith) (omega arith)) (from-every f (suc i) n (λ x l k. h x (omega arith) (omega arith)))
 
+-- one of two numbers that follow each other
+pub one-of-two : (P : ℕ → Type 0) (i j k : ℕ) → P i → P j → j ≡ suc i → i ≤ k → k < i + 2 → P k
+one-of-two P i j k p q next low high =
+    elim (ℕ-discrete i k) [
+      | yes e ↦ subst P e p
+      | no e ↦ let other : j ≡ k = omega arith in subst P other q
+    ]
+
 -- ---- beginnings
 
 -- equally long beginnings of one list are equal, and so is what follows
@@ -90,3 +98,11 @@ some-iff f (x ∷ xs) =
         | inr m ↦ or-right (f x) (some f xs) (more .1 (p .0, m, p .2))
       ],
     )
+
+-- where each passes a test, one that passes another passes both
+pub every-some {ℓ} : {A : Type ℓ} (f g : A → Bool) (xs : List A) → T (every f xs) → T (some g xs) → (x : A) × T (f x) × T (g x)
+unfolding every some
+every-some f g [] all one = absurd one
+every-some f g (x ∷ xs) all one =
+    let both = and-yes (f x) _ all in
+    elim (or-yes (g x) _ one) [ inl h ↦ (x, both .0, h) | inr h ↦ every-some f g xs (both .1) h ]

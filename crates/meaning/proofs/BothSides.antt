@@ -17,7 +17,7 @@ use Rattle.laws.proofs.Tests.{beq-iff}
 use Rattle.meaning.specs.Words.{bytesOf, count, offset, paraAdr, paraOS, paraType, paraSubType, subAddress, data24}
 use Rattle.meaning.specs.Registers.{cells, formats, bytesAmong, bytesPerPixel, formatTable, alphaConstants, location, formatByte, levels, filters, mapping, alphaSelect, memoryLocation, targetGroup, stage, sample, sections, overlay, scaler, find, findAmong, find3D, findOffset, findVideo, registerAmong, registerIn, registerAt}
 use Rattle.meaning.specs.Grants.{grantFine, grantsFine, covers, granted}
-use Rattle.meaning.specs.Batch.{typeAllowed, allowed}
+use Rattle.meaning.specs.Batch.{allowedTypes, typeAllowed, allowed}
 use Rattle.meaning.specs.State.{cellFormed, wellFormed, empty, apply, applyAll}
 use Rattle.meaning.specs.Positions.{kindOf, after, nextKind, nextLeft, goes, carries, writeAt, writesFrom, writesOf}
 use Rattle.meaning.specs.Reader.{unless, runIn, headerReason, valueReason, wordReason, judge, run, batchAnswer, readAnswer, readLeaves}
@@ -29,14 +29,14 @@ use Rattle.meaning.specs.Cases.{holding, cases, slips, Holds, keeping, b
 
 -- "K1 to K12 are one table, with a single proved statement about the definitions over it"
 pub cases-hold : All Holds cases
-unfolding cases holding count offset paraAdr paraOS paraType paraSubType subAddress data24 formats bytesAmong bytesPerPixel alphaConstants location formatByte levels filters mapping alphaSelect memoryLocation targetGroup stage sample sections overlay scaler find findAmong find3D findVideo findOffset registerAmong registerIn registerAt grantFine grantsFine covers granted typeAllowed allowed cellFormed wellFormed empty apply applyAll kindOf after nextKind nextLeft goes carries writeAt writesFrom writesOf unless runIn headerReason valueReason wordReason judge run batchAnswer readAnswer readLeaves every some from oneOf
+unfolding cases holding count offset paraAdr paraOS paraType paraSubType subAddress data24 formats bytesAmong bytesPerPixel alphaConstants location formatByte levels filters mapping alphaSelect memoryLocation targetGroup stage sample sections overlay scaler find findAmong find3D findVideo findOffset registerAmong registerIn registerAt grantFine grantsFine covers granted allowedTypes typeAllowed allowed cellFormed wellFormed empty apply applyAll kindOf after nextKind nextLeft goes carries writeAt writesFrom writesOf unless runIn headerReason valueReason wordReason judge run batchAnswer readAnswer readLeaves every some from oneOf
 cases-hold = (
   (refl, refl),
   ((refl, refl), ((refl, refl), ((refl, refl), ((refl, refl), ((refl, refl), ((refl, refl), ((refl, refl), ((refl, refl), ((refl, refl), ((refl, refl), ((refl, refl), tt))))))))))),
 )
 
 pub slips-hold : All Holds slips
-unfolding slips holding count offset paraAdr paraOS paraType paraSubType subAddress data24 formats bytesAmong bytesPerPixel alphaConstants location formatByte levels filters mapping alphaSelect memoryLocation targetGroup stage sample sections overlay scaler find findAmong find3D findVideo findOffset registerAmong registerIn registerAt grantFine grantsFine covers granted typeAllowed allowed cellFormed wellFormed empty apply applyAll kindOf after nextKind nextLeft goes carries writeAt writesFrom writesOf unless runIn headerReason valueReason wordReason judge run batchAnswer readAnswer readLeaves every some from oneOf
+unfolding slips holding count offset paraAdr paraOS paraType paraSubType subAddress data24 formats bytesAmong bytesPerPixel alphaConstants location formatByte levels filters mapping alphaSelect memoryLocation targetGroup stage sample sections overlay scaler find findAmong find3D findVideo findOffset registerAmong registerIn registerAt grantFine grantsFine covers granted allowedTypes typeAllowed allowed cellFormed wellFormed empty apply applyAll kindOf after nextKind nextLeft goes carries writeAt writesFrom writesOf unless runIn headerReason valueReason wordReason judge run batchAnswer readAnswer readLeaves every some from oneOf
 slips-hold = ((refl, refl), ((refl, refl), ((refl, refl), ((refl, refl), ((refl, refl), ((refl, refl), ((refl, refl), tt)))))))
 
 -- state and grants both bad: 1 comes before 2

@@ -22,7 +22,7 @@ use Rattle.meaning.specs.Writer.{written, writeAnswer, writeLeaves}
 use Rattle.meaning.specs.Lister.{listAnswer, listLeaves}
 use Rattle.meaning.specs.Exported.{bufferFine, wordBufferFine, exportedRead, exportedReadLeaves, exportedWrite, exportedWriteLeaves, exportedList, exportedListLeaves}
 use Rattle.meaning.specs.Reasons.{WriterGives}
-use Rattle.meaning.proofs.Stored.{stored}
+use Rattle.meaning.proofs.EachWrite.{each-write}
 use Rattle.meaning.proofs.Writes.{writes-of-cut}
 use Rattle.meaning.proofs.Writing.{written-words}
 use Rattle.meaning.proofs.Exactly.{accepted-cut, read-told, read-range}
@@ -58,7 +58,7 @@ applied-small st (w ∷ ws) a s =
     applied-small (apply st w) ws (a .1) (set-small (set st (w .cell .0) (w .value)) (cells + w .cell .0) 1 (omega arith) (set-small st (w .cell .0) (w .value) (a .0) s))
 
 packets-small : (g : Terms) (ps : List (List ℕ)) → All (Packet g) ps → All Word (join ps) → All (λ w. Word (w .value)) (allWrites ps)
-packets-small g = stored g (λ (w : Write). Word (w .value)) Word (λ c v l n s. omega arith) (λ c v l n s. n)
+packets-small g = each-write g (λ (w : Write). Word (w .value)) Word (λ c v l n s. omega arith) (λ c v l n s. n)
 
 pub left-small : (batch st : List ℕ) (g : Terms) → Cut g batch → All Word batch → All Word st → All Word (applyAll st (writesOf batch))
 left-small batch st g c b s =

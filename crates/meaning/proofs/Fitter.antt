@@ -13,7 +13,7 @@ use Rattle.meaning.specs.Grants.{Grant, covers, granted, Terms}
 use Rattle.meaning.specs.Batch.{reaches, Packet}
 use Rattle.meaning.specs.State.{allWrites}
 use Rattle.meaning.specs.Fitter.{Admits, Inside, Apart, Harmless, Safe, OfAddress, Stores}
-use Rattle.meaning.proofs.Stored.{stored}
+use Rattle.meaning.proofs.EachWrite.{each-write}
 
 admits-iff : (x : Grant) (role a : ℕ) → T (covers role a x) ↔ Admits x role a
 unfolding covers
@@ -42,7 +42,7 @@ held-inside g (address role a) t = granted-iff (g .grants) role a .0 t
 
 pub packets-inside : (g : Terms) (ps : List (List ℕ)) → All (Packet g) ps → All (Stores (Inside (g .grants))) (allWrites ps)
 packets-inside g ps a =
-    stored g (Stores (Inside (g .grants))) (λ (w : ℕ). Unit {0})
+    each-write g (Stores (Inside (g .grants))) (λ (w : ℕ). Unit {0})
     (λ c v l n s. held-inside g (registerAt c .holds v) (s .granted))
     (λ c v l n s. held-inside g (registerAt c .holds v) (s .granted))
     ps a (all-unit (join ps))

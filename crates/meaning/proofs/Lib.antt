@@ -1,5 +1,6 @@
 pub mod BothSides
 pub mod Verdicts
+pub mod Columns
 pub mod Packets
 pub mod Cuts
 pub mod Reading
@@ -9,7 +10,7 @@ pub mod Writes
 pub mod Table
 pub mod Writing
 pub mod States
-pub mod Stored
+pub mod EachWrite
 pub mod Stretches
 pub mod Round
 pub mod Exactly

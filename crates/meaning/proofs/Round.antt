@@ -27,7 +27,7 @@ use Rattle.meaning.specs.Reader.{valueReason, readAnswer, readLeaves}
 use Rattle.meaning.specs.Writer.{wordsFor, packetsOf, written, writable, lowestBad}
 use Rattle.meaning.specs.Reasons.{CellFine}
 use Rattle.meaning.proofs.Verdicts.{fits-fine}
-use Rattle.meaning.proofs.Stored.{stored}
+use Rattle.meaning.proofs.EachWrite.{each-write}
 use Rattle.meaning.proofs.Writes.{writes-of-cut}
 use Rattle.meaning.proofs.Exactly.{read-told, accepted-parts, accepted-cut}
 use Rattle.meaning.proofs.Writing.{written-permitted, written-words, written-writes}
@@ -37,7 +37,7 @@ use Rattle.meaning.proofs.States.{Formed, formed-iff, Sound, FineWrite,
 
 packets-fine : (g : Terms) (ps : List (List ℕ)) → All (Packet g) ps → All Word (join ps) → All (FineWrite g) (allWrites ps)
 packets-fine g =
-    stored g (FineWrite g) Word
+    each-write g (FineWrite g) Word
     (λ c v l n s. record { low = l .0; fine = record { narrow = rw (l .1) n; fits = s } })
     (λ c v l n s. record { low = l .0; fine = record { narrow = rw (l .1) n; fits = s } })
 
@@ -60,7 +60,7 @@ sound-takes g st s =
 -- ---- what the reader leaves of a well-formed state
 
 pub packets-low : (g : Terms) (ps : List (List ℕ)) → All (Packet g) ps → All (λ w. w .cell .0 < cells) (allWrites ps)
-packets-low g ps a = stored g (λ (w : Write). w .cell .0 < cells) (λ (w : ℕ). Unit {0}) (λ c v l n s. l .0) (λ c v l n s. l .0) ps a (all-unit (join ps))
+packets-low g ps a = each-write g (λ (w : Write). w .cell .0 < cells) (λ (w : ℕ). Unit {0}) (λ c v l n s. l .0) (λ c v l n s. l .0) ps a (all-unit (join ps))
 
 left-formed : (batch st : List ℕ) (g : Terms) (a : Answer) → (a .reason ≡ 0 → Cut g batch) → (b : Bool) → eqb (a .reason) 0 ≡ b → Formed st
     → Formed (cond b (applyAll st (writesOf batch)) st)

@@ -1,66 +1,73 @@
 -- Words that may stand at each position: where each scaler role has a granted address that its registers hold, there is one.
 -- Assumes nothing.
 use mathlib.Core.Path.{_≡_, refl, sym, ap, _∙_, subst, subst₂}
-use mathlib.Core.Logic.{inl, inr}
 use mathlib.Core.Bool.{Bool, _&&_, cond}
-use mathlib.Core.List.{map}
-use Prim.Native.Nat.{ℕ, zero, suc, _+_, _*_, _/_, _%_, _<_, _^_}
+use mathlib.Core.List.{List, [], _∷_}
+use Prim.Native.Nat.{ℕ, suc, _+_, _*_, _-_, _/_, _%_, _<_, _^_}
 use native.Mathlib.Omega.{arith}
-use lib.Dec.{T, leb, eqb, ltb, lit<}
+use lib.Dec.{T, eqb, ltb, lit<}
 use lib.Bits.{bitAnd, and-block, and-comm, and-shifted, and-zero-l}
-use mir.Facts.{and-yes, or-yes, eqb-yes, yes-eqb, ltb-yes}
-use Rattle.laws.specs.Lists.{All, every, from}
-use Rattle.laws.specs.Tests.{within}
+use mir.Facts.{and-yes, eqb-yes, yes-eqb, ltb-yes}
+use Rattle.laws.specs.Lists.{All, every, some, from}
 use Rattle.laws.proofs.Tests.{within-iff}
-use Rattle.laws.proofs.Lists.{all-append, all-both, every-from}
+use Rattle.laws.proofs.Lists.{all-both, every-from, every-some}
 use Rattle.meaning.specs.declared.Cell.{Cell}
 use Rattle.meaning.specs.declared.VideoOffset.{VideoOffset}
+use Rattle.meaning.specs.declared.SubAddress.{SubAddress}
 use Rattle.meaning.specs.declared.Found.{Found}
 use Rattle.meaning.specs.declared.Found.the-variants.{At, Missing}
 use Rattle.meaning.specs.declared.Kind.the-variants.{Setting, Parameter, Video}
 use Rattle.meaning.specs.Words.{Word, bits, paraAdr, paraOS, paraType, paraSubType, subAddress, data24}
 use Rattle.meaning.specs.Registers.{any, scaled, noAddress, alphaSelect, memoryLocation, alphaConstants, levels, Register, Row, Group, Section, of3D, ofVideo, stageSection, sampleSection, targetGroup, stage, sample, overlay, scaler, sections3D, sectionsVideo, sections, find, findAmong, find3D, findVideo, isFound, registerAmong, registerIn, registerAt}
 use Rattle.meaning.specs.Grants.{Terms, granted}
-use Rattle.meaning.specs.Batch.{Fits, typeAllowed, allowed, Holdable}
+use Rattle.meaning.specs.Batch.{Fits, SubTypes, allowedTypes, typeAllowed, allowed, Holdable}
 use Rattle.meaning.specs.Reader.{unless, valueReason, foundReason, wordReason}
 use Rattle.meaning.proofs.Verdicts.{fits-fine}
 use Rattle.meaning.proofs.Table.{Of, OwnIn, RowsVideo, own-registers, found-video-of}
 use Rattle.meaning.proofs.Places.{Sample, Samples}
 
--- ---- a setting, and a parameter under each: one test over the types and sub-types
+-- ---- a setting, and a parameter under each: one test over the allowed types
 
 a-setting : (g : Terms) → Sample g Setting
-unfolding wordReason allowed paraAdr paraOS paraType paraSubType typeAllowed unless
+unfolding wordReason allowed paraAdr paraOS paraType paraSubType allowedTypes typeAllowed some unless
 a-setting g = record { word = 0x10000; small = lit< tt; taken = refl }
 
--- a parameter that may stand under a type and sub-type: a register without an address, and 0
+-- the sub-address of a group's first register
+firstName : List (Row SubAddress) → ℕ
+firstName [] = 0
+firstName (r ∷ rs) = r .name .0
+
+-- a parameter for a type and sub-type: 0 in the first register of their group
+candidateIn : ℕ → ℕ → List Section → ℕ
+candidateIn t u [] = 0
+candidateIn t u (of3D G ∷ ss) = let more = candidateIn t u ss in cond (eqb t (G .type) && eqb u (G .subType)) (firstName (G .rows) * 2 ^ 24) more
+candidateIn t u (ofVideo rs ∷ ss) = candidateIn t u ss
+
 candidate : ℕ → ℕ → ℕ
-candidate t u = cond (eqb t 0x01) 0x3F000000 (cond (leb u 0x0F) 0x50000000 0x30000000)
+candidate t u = candidateIn t u sections
 
 fine : Terms → ℕ → ℕ → Bool
 fine g t u =
     let p = candidate t u in
     ltb p (2 ^ 32) && eqb (foundReason g 6 (find3D t u (subAddress p)) (data24 p)) 0
 
-tested : (g : Terms) → T (fine g 0x01 0x00) × T (every (fine g 0x02) (from 0x00 16)) × T (every (fine g 0x02) (from 0x20 16))
-unfolding fine candidate subAddress data24 find3D findAmong find sections targetGroup stage sample registerAt registerIn registerAmong overlay scaler valueReason unless alphaConstants levels every from
-tested g = (tt, tt, tt)
+-- it may stand under each sub-type of the range
+fineUnder : Terms → SubTypes → Bool
+fineUnder g r = every (fine g (r .type)) (from (r .first) (suc (r .last) - r .first))
+
+tested : (g : Terms) → T (every (fineUnder g) allowedTypes)
+unfolding fineUnder allowedTypes fine candidate candidateIn firstName subAddress data24 find3D findAmong find sections targetGroup stage sample registerAt registerIn registerAmong overlay scaler valueReason unless alphaConstants levels every from
+tested g = tt
 
 fine-allowed : (g : Terms) (t u : ℕ) → T (typeAllowed t u) → T (fine g t u)
-unfolding typeAllowed
+unfolding typeAllowed fineUnder
 fine-allowed g t u a =
-    elim (or-yes (eqb t 0x01 && eqb u 0x00) _ a) [
-      | inl b ↦
-          let c = and-yes (eqb t 0x01) _ b in
-          subst₂ (λ (x y : ℕ). T (fine g x y)) (sym (eqb-yes (c .0))) (sym (eqb-yes (c .1))) (tested g .0)
-      | inr b ↦
-          let c = and-yes (eqb t 0x02) _ b in
-          subst (λ (x : ℕ). T (fine g x u)) (sym (eqb-yes (c .0)))
-          (elim (or-yes (within 0x00 0x0F u) _ (c .1)) [
-            | inl d ↦ let e = within-iff 0x00 0x0F u .0 d in every-from (fine g 0x02) 0x00 16 (tested g .1) u (e .0) (omega arith)
-            | inr d ↦ let e = within-iff 0x20 0x2F u .0 d in every-from (fine g 0x02) 0x20 16 (tested g .2) u (e .0) (omega arith)
-          ])
-    ]
+    let under = every-some (fineUnder g) _ allowedTypes (tested g) a in
+    let r : SubTypes = under .0 in
+    let named = and-yes (eqb t (r .type)) _ (under .2) in
+    let inside = within-iff (r .first) (r .last) u .0 (named .1) in
+    subst (λ (x : ℕ). T (fine g x u)) (sym (eqb-yes (named .0)))
+    (every-from (fine g (r .type)) (r .first) (suc (r .last) - r .first) (under .1) u (inside .0) (omega arith))
 
 a-parameter : (g : Terms) (s : ℕ) → T (allowed s) → Sample g (Parameter s)
 unfolding allowed fine wordReason
@@ -127,16 +134,22 @@ scaler-rows g c o role h = (
 abbrev Rows-hold : Terms → Section → Type 0
 Rows-hold g = RowsVideo (λ r. Holds g (r .register))
 
-of-groups : (g : Terms) (f : ℕ → Group) (i n : ℕ) → All (Rows-hold g) (map (λ k. of3D (f k)) (from i n))
-unfolding from
-of-groups g f i zero = tt
-of-groups g f i (suc n) = (tt, of-groups g f (suc i) n)
+-- the rows of video registers, wherever they stand in the table
+videoRows : List Section → List (List (Row VideoOffset))
+videoRows [] = []
+videoRows (of3D G ∷ ss) = videoRows ss
+videoRows (ofVideo rs ∷ ss) = rs ∷ videoRows ss
+
+in-place : (g : Terms) (ss : List Section) → All (All (λ r. Holds g (r .register))) (videoRows ss) → All (Rows-hold g) ss
+unfolding videoRows
+in-place g [] a = tt
+in-place g (of3D G ∷ ss) a = (tt, in-place g ss a)
+in-place g (ofVideo rs ∷ ss) a = (a .0, in-place g ss (a .1))
 
 video-rows : (g : Terms) → Holdable g 2 → Holdable g 3 → All (Rows-hold g) sections
-unfolding sections overlay alphaSelect
+unfolding videoRows sections from overlay alphaSelect
 video-rows g h2 h3 =
-    all-append (Rows-hold g) sections3D sectionsVideo
-    (tt, all-append (Rows-hold g) (map stageSection (from 0 16)) (map sampleSection (from 0 16)) (of-groups g stage 0 16) (of-groups g sample 0 16)) (
+    in-place g sections (
       (nothing-held g _ any tt, (nothing-held g _ any tt, (nothing-held g _ alphaSelect tt, tt))),
       (scaler-rows g 87 0x2000 2 h2, (scaler-rows g 94 0x3000 3 h3, tt)),
     )

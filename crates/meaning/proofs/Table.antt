@@ -9,7 +9,7 @@ use borrow.Author.Tests.{eq-eqb, ne-eqb}
 use lib.Dec.{T, ltb, leb, eqb}
 use lib.ListN.{length}
 use mir.Facts.{and-yes, eqb-yes, ltb-yes, leb-yes}
-use Rattle.laws.specs.Lists.{All, from}
+use Rattle.laws.specs.Lists.{All, some, from}
 use Rattle.laws.proofs.Lists.{all-both}
 use Rattle.meaning.specs.declared.Cell.{Cell}
 use Rattle.meaning.specs.declared.SubAddress.{SubAddress}
@@ -17,7 +17,7 @@ use Rattle.meaning.specs.declared.VideoOffset.{VideoOffset}
 use Rattle.meaning.specs.declared.Found.{Found}
 use Rattle.meaning.specs.declared.Found.the-variants.{At, Missing}
 use Rattle.meaning.specs.Registers.{cells, cell, Register, registerAmong, registerIn, registerAt, Row, Group, Section, of3D, ofVideo, targetGroup, stage, sample, overlay, scaler, sections, find, findAmong, find3D, findOffset, findVideo, firstFound}
-use Rattle.meaning.specs.Batch.{typeAllowed}
+use Rattle.meaning.specs.Batch.{allowedTypes, typeAllowed}
 
 -- row i: it bears number i and is found by its name, which is less than `names`; its register is so wide
 pub record RowAt (Name : Type 0) (key : Name → ℕ) (look : Name → Found) (names wide i : ℕ) (r : Row Name) : Type 0 where
@@ -146,7 +146,7 @@ sections-at i (s ∷ ss) t = let b = and-yes (sectionTest i s) _ t in (section-a
 
 -- THE TEST, over the whole table
 tested : T (sectionsTest 0 sections)
-unfolding sectionsTest sectionTest groupTest videoTest rowsTest rowTest isAt find3D findAmong findVideo findOffset find registerAt registerIn registerAmong sections targetGroup stage sample overlay scaler from typeAllowed
+unfolding sectionsTest sectionTest groupTest videoTest rowsTest rowTest isAt find3D findAmong findVideo findOffset find registerAt registerIn registerAmong sections targetGroup stage sample overlay scaler from some allowedTypes typeAllowed
 tested = tt
 
 -- ---- what it shows

@@ -1,13 +1,13 @@
 -- 4. Permitted packets and batches, said of the words alone; a cut; what begins a permitted batch.
 -- Assumes nothing.
 use mathlib.Core.Path.{_≡_}
-use mathlib.Core.Bool.{Bool, true, _&&_, _||_}
+use mathlib.Core.Bool.{Bool, true, _&&_}
 use mathlib.Core.List.{List, [], _∷_, _++_}
 use Prim.Native.Nat.{ℕ, _%_, _≤_, _<_, _^_}
 use lib.Dec.{T, eqb}
 use lib.ListN.{length, take}
 use lib.Bits.{bitAnd}
-use Rattle.laws.specs.Lists.{All, join}
+use Rattle.laws.specs.Lists.{All, some, join}
 use Rattle.laws.specs.Tests.{within}
 use Rattle.meaning.specs.declared.VideoOffset.{VideoOffset}
 use Rattle.meaning.specs.declared.Found.{Found}
@@ -44,9 +44,23 @@ offset3D = 0x043C
 abbrev pub most3D : ℕ
 most3D = 113
 
+-- a type and the sub-types that it may have, from the first to the last
+pub record SubTypes : Type 0 where
+  pub type : ℕ
+  pub first : ℕ
+  pub last : ℕ
+
 -- "Allowed: type 01h with sub-type 00h; type 02h with 00h to 0Fh (stage n) or 20h to 2Fh (sample n)"
+unfoldable pub allowedTypes : List SubTypes
+allowedTypes =
+    record { type = 0x01; first = 0x00; last = 0x00 }
+    ∷ record { type = 0x02; first = 0x00; last = 0x0F }
+    ∷ record { type = 0x02; first = 0x20; last = 0x2F }
+    ∷ []
+
+-- a type and a sub-type are among them
 unfoldable pub typeAllowed : ℕ → ℕ → Bool
-typeAllowed t u = eqb t 0x01 && eqb u 0x00 || eqb t 0x02 && (within 0x00 0x0F u || within 0x20 0x2F u)
+typeAllowed t u = some (λ r. eqb t (r .type) && within (r .first) (r .last) u) allowedTypes
 
 -- "HParaAdr and .. HParaOS, both 0 here"
 unfoldable pub allowed : ℕ → Bool

@@ -19,8 +19,8 @@ use Rattle.meaning.specs.Answers.{badSetting}
 use Rattle.meaning.specs.Reader.{unless, headerReason, wordReason}
 use Rattle.grants.specs.declared.Part.{Part}
 use Rattle.grants.specs.Kept.{partOf, Bounded, Granting, Keeps}
-use Rattle.rows.specs.Scalers.{Scaler}
-use Rattle.rows.specs.Scalers as scalers
+use Rattle.rows_video.specs.Scalers.{Scaler}
+use Rattle.rows_video.proofs.Scalers.{scaler-granted}
 use Rattle.headers.specs.declared.Group.{Group}
 use Rattle.headers.specs.declared.Group.the-variants.{Target, Stage, Sample, Nothing}
 use Rattle.headers.specs.declared.Header.{Header}
@@ -100,20 +100,12 @@ module _ (g : Terms) (ws : List ℕ) {s : ℕ} (at : ℕ) (es : s ≡ getD ws at
 
 -- ---- a role's part of what is kept
 
-pub scaler-role : {c role : ℕ} → Scaler c role → role < 4
-scaler-role scalers.first = omega arith
-scaler-role scalers.second = omega arith
-
 module _ (bounds : List ℕ) (role : ℕ) {part : Part} (e : part ≡ partOf bounds role) where
   pub part-inside : Bounded bounds → role < 4 → part .to ≤ mostGrants
   part-inside b l = rw e (b role l)
 
   pub scaler-part : {c : ℕ} → Scaler c role → (g : Terms) (starts lasts : List ℕ) → Keeps g starts lasts bounds → Granting g role starts lasts part
-  scaler-part s g starts lasts k = rw e (by s)
-    where
-      by : {c role : ℕ} → Scaler c role → Granting g role starts lasts (partOf bounds role)
-      by scalers.first = k .firsts
-      by scalers.second = k .seconds
+  scaler-part s g starts lasts k = rw e (scaler-granted g starts lasts bounds s k)
 
 pub target-part : (bounds : List ℕ) {part : Part} → part ≡ partOf bounds 1 → (g : Terms) (starts lasts : List ℕ) → Keeps g starts lasts bounds → Granting g 1 starts lasts part
 target-part bounds e g starts lasts k = rw e (k .targets)

@@ -23,7 +23,7 @@ use Rattle.meaning.specs.Answers.{success, endsInside, answer}
 use Rattle.meaning.specs.Reader.{headerReason, wordReason, judge, follow, ended, run, batchAnswer}
 use Rattle.meaning.proofs.States.{applied-append}
 use Rattle.meaning.proofs.Stretches.{afterAll}
-use Rattle.bodies.specs.Passes.{Passed, passed, answerOf, orElse, stored, bodyFrom}
+use Rattle.bodies.specs.Passes.{Passed, passed, answerOf, orElse, applied, bodyFrom}
 use Rattle.bodies.proofs.Bodies.{else-on, else-stop}
 use Rattle.packets.specs.Packets.{headed, upTo, packetFrom, ends, packetsFrom}
 use Rattle.packets.proofs.Headed.{Comes}
@@ -86,7 +86,7 @@ unfolding packetsFrom judge nextKind nextLeft writeAt applyAll
 header-read g i kind w ws st = refl
 
 word-read : (g : Terms) (i : ℕ) (kind : Kind) (k w : ℕ) (ws st : List ℕ)
-    → packetsFrom g i kind (suc k) (w ∷ ws) st ≡ orElse (wordReason g kind w) i st (packetsFrom g (suc i) (after kind w) k ws (stored kind w st))
+    → packetsFrom g i kind (suc k) (w ∷ ws) st ≡ orElse (wordReason g kind w) i st (packetsFrom g (suc i) (after kind w) k ws (applied kind w st))
 unfolding packetsFrom judge nextKind nextLeft writeAt
 word-read g i kind k w ws st = refl
 
@@ -111,7 +111,7 @@ stretch g i kind (suc k) (x ∷ xs) ys st l =
     let e : suc i + length xs ≡ i + suc (length xs) = omega arith in
     let f : k - length xs ≡ suc k - suc (length xs) = omega arith in
     let next = after kind x in
-    let left = stored kind x st in
+    let left = applied kind x st in
     word-read g i kind k x (xs ++ ys) st
     ∙ ap (orElse (wordReason g kind x) i st) (
     stretch g (suc i) next k xs ys left (omega arith)

@@ -58,7 +58,7 @@ fn read_3d(
     state: &mut State,
 ) -> Answer
     requires places { ⌜ Places at end (now batch) ⌝ }
-    requires kept { ⌜ Bounded (now bounds) ⌝ }
+    requires bounded { ⌜ Bounded (now bounds) ⌝ }
     ensures answer { λ r. ⌜ ((g : Terms) → Keeps g (now (starts .entry)) (now (lasts .entry)) (now (bounds .entry)) → r ≡ answerOf (bodyFrom g at kinds.Setting (slice at end (wordsOf (now (batch .entry)))) (now (state .entry)))) ⌝ }
     ensures state { λ _. ⌜ ((g : Terms) → Keeps g (now (starts .entry)) (now (lasts .entry)) (now (bounds .entry)) → now (state .exit) ≡ bodyFrom g at kinds.Setting (slice at end (wordsOf (now (batch .entry)))) (now (state .entry)) .state) ⌝ }
 {
@@ -89,7 +89,7 @@ fn read_headed(
 ) -> Answer
     requires places { ⌜ Places (at + 1) end (now batch) ⌝ }
     requires short { ⌜ end ≤ at + 1 + count header ⌝ }
-    requires kept { ⌜ Bounded (now bounds) ⌝ }
+    requires bounded { ⌜ Bounded (now bounds) ⌝ }
     ensures answer { λ r. ⌜ ((g : Terms) → Keeps g (now (starts .entry)) (now (lasts .entry)) (now (bounds .entry)) → r ≡ answerOf (headed g at header (slice (at + 1) end (wordsOf (now (batch .entry)))) (now (state .entry)))) ⌝ }
     ensures state { λ _. ⌜ ((g : Terms) → Keeps g (now (starts .entry)) (now (lasts .entry)) (now (bounds .entry)) → now (state .exit) ≡ headed g at header (slice (at + 1) end (wordsOf (now (batch .entry)))) (now (state .entry)) .state) ⌝ }
 {
@@ -138,7 +138,7 @@ pub fn read_packet(
     state: &mut State,
 ) -> Answer
     requires header { ⌜ at < length (now batch) / 4 ⌝ }
-    requires kept { ⌜ Bounded (now bounds) ⌝ }
+    requires bounded { ⌜ Bounded (now bounds) ⌝ }
     ensures answer { λ r. ⌜ ((g : Terms) → Keeps g (now (starts .entry)) (now (lasts .entry)) (now (bounds .entry)) → r ≡ answerOf (packetFrom g at (drop at (wordsOf (now (batch .entry)))) (now (state .entry)))) ⌝ }
     ensures state { λ _. ⌜ ((g : Terms) → Keeps g (now (starts .entry)) (now (lasts .entry)) (now (bounds .entry)) → now (state .exit) ≡ packetFrom g at (drop at (wordsOf (now (batch .entry)))) (now (state .entry)) .state) ⌝ }
     ensures ahead { λ r. ⌜ (r .reason ≡ 0 → r .place ≡ at + 1 + count (getD (wordsOf (now (batch .entry))) at 0)) ⌝ }
@@ -165,7 +165,7 @@ pub fn read_packets(
     bounds: &Bounds,
     state: &mut State,
 ) -> Answer
-    requires kept { ⌜ Bounded (now bounds) ⌝ }
+    requires bounded { ⌜ Bounded (now bounds) ⌝ }
     ensures answer { λ r. ⌜ ((g : Terms) → Keeps g (now (starts .entry)) (now (lasts .entry)) (now (bounds .entry)) → r ≡ answerOf (packetsFrom g 0 kinds.Setting 0 (wordsOf (now (batch .entry))) (now (state .entry)))) ⌝ }
     ensures state { λ _. ⌜ ((g : Terms) → Keeps g (now (starts .entry)) (now (lasts .entry)) (now (bounds .entry)) → now (state .exit) ≡ packetsFrom g 0 kinds.Setting 0 (wordsOf (now (batch .entry))) (now (state .entry)) .state) ⌝ }
 {

@@ -9,7 +9,8 @@ use native.Mathlib.Omega.{arith}
 use denote.Ref.{now}
 use Rattle.meaning.specs.Grants.{Terms}
 use Rattle.grants.proofs.Keeping.{part-some, kept-some}
-use Rattle.rows.specs.Scalers.{first}
+use Rattle.rows_video.specs.Scalers.{first}
+use Rattle.rows_video.proofs.Scalers.{the-scaler}
 use Rattle.fields.proofs.count.Reads as count
 use Rattle.fields.proofs.offset.Reads as offset
 use Rattle.fields.proofs.sub_type.Reads as sub-type
@@ -37,22 +38,22 @@ use Rattle.states.proofs.well_formed.Reads as well-formed
 use Rattle.states.proofs.marked_between.Reads as marked-between
 use Rattle.grants.proofs.part_of.Reads as part-of
 use Rattle.grants.proofs.covered.Reads as covered
-use Rattle.rows.proofs.alpha_constants_reason.Reads as alpha-constants-reason
-use Rattle.rows.proofs.target_address_reason.Reads as target-address-reason
-use Rattle.rows.proofs.location_reason.Reads as location-reason
-use Rattle.rows.proofs.format_reason.Reads as format-reason
-use Rattle.rows.proofs.stage_reason.Reads as stage-reason
-use Rattle.rows.proofs.levels_reason.Reads as levels-reason
-use Rattle.rows.proofs.filters_reason.Reads as filters-reason
-use Rattle.rows.proofs.mapping_reason.Reads as mapping-reason
-use Rattle.rows.proofs.overlay_reason.Reads as overlay-reason
-use Rattle.rows.proofs.alpha_select_reason.Reads as alpha-select-reason
-use Rattle.rows.proofs.deinterlace_reason.Reads as deinterlace-reason
-use Rattle.rows.proofs.sub_picture_reason.Reads as sub-picture-reason
-use Rattle.rows.proofs.first_address_reason.Reads as first-address-reason
-use Rattle.rows.proofs.address_reason.Reads as address-reason
-use Rattle.rows.proofs.destination_stride_reason.Reads as destination-stride-reason
-use Rattle.rows.proofs.source_stride_reason.Reads as source-stride-reason
+use Rattle.rows_3d.proofs.alpha_constants_reason.Reads as alpha-constants-reason
+use Rattle.rows_3d.proofs.target_address_reason.Reads as target-address-reason
+use Rattle.rows_3d.proofs.location_reason.Reads as location-reason
+use Rattle.rows_3d.proofs.format_reason.Reads as format-reason
+use Rattle.rows_3d.proofs.stage_reason.Reads as stage-reason
+use Rattle.rows_3d.proofs.levels_reason.Reads as levels-reason
+use Rattle.rows_3d.proofs.filters_reason.Reads as filters-reason
+use Rattle.rows_3d.proofs.mapping_reason.Reads as mapping-reason
+use Rattle.rows_video.proofs.overlay_reason.Reads as overlay-reason
+use Rattle.rows_video.proofs.alpha_select_reason.Reads as alpha-select-reason
+use Rattle.rows_video.proofs.deinterlace_reason.Reads as deinterlace-reason
+use Rattle.rows_video.proofs.sub_picture_reason.Reads as sub-picture-reason
+use Rattle.rows_video.proofs.first_address_reason.Reads as first-address-reason
+use Rattle.rows_video.proofs.address_reason.Reads as address-reason
+use Rattle.rows_video.proofs.destination_stride_reason.Reads as destination-stride-reason
+use Rattle.rows_video.proofs.source_stride_reason.Reads as source-stride-reason
 use Rattle.headers.proofs.Groups.{some-setting}
 use Rattle.headers.proofs.header_of.Reads as header-of
 use Rattle.headers.proofs.group_of.Reads as group-of
@@ -321,9 +322,9 @@ take-overlay-one κs a r r' s s' p q = (one-answer (p .0 ungranted) (q .0 ungran
 pub take-scaler-one : (κs : _) (a : _) (r r' : _) (s s' : _) → take-scaler.Asked κs a → take-scaler.Learnt κs a r s → take-scaler.Learnt κs a r' s'
     → (r ≡ r') × (now (s .1 .1 .1 .1 .1 .1 .1 .1 .0) ≡ now (s' .1 .1 .1 .1 .1 .1 .1 .1 .0))
 take-scaler-one κs a r r' s s' asked p q =
-    let sc = asked .1 .1 .0 in
-    let k = part-some (sc .0) (now (a .1 .1 .1 .1 .1 .0)) (now (a .1 .1 .1 .1 .1 .1 .0)) (a .1 .1 .1 .1 .1 .1 .1 .0) in
-    (one-answer (p .0 (k .0) (sc .0) (sc .1) (k .1)) (q .0 (k .0) (sc .0) (sc .1) (k .1)), one-answer (p .1 (k .0) (sc .0) (sc .1) (k .1)) (q .1 (k .0) (sc .0) (sc .1) (k .1)))
+    let sc = the-scaler (asked .1 .1 .0) in
+    let k = part-some _ (now (a .1 .1 .1 .1 .1 .0)) (now (a .1 .1 .1 .1 .1 .1 .0)) (a .1 .1 .1 .1 .1 .1 .1 .0) in
+    (one-answer (p .0 (k .0) _ sc (k .1)) (q .0 (k .0) _ sc (k .1)), one-answer (p .1 (k .0) _ sc (k .1)) (q .1 (k .0) _ sc (k .1)))
 
 pub read-packet-one : (κs : _) (a : _) (r r' : _) (s s' : _) → read-packet.Learnt κs a r s → read-packet.Learnt κs a r' s' → (r ≡ r') × (now (s .1 .1 .1 .1 .1 .0) ≡ now (s' .1 .1 .1 .1 .1 .0))
 read-packet-one κs a r r' s s' p q =

@@ -17,14 +17,10 @@ orEnd Missing end = end
 unfoldable pub lowest : Terms → List ℕ → ℕ → ℕ → ℕ
 lowest g st i n = orEnd (lowestBad g st i n) (i + n)
 
--- the first cell of a stage,
+-- the first cell of a stage
 abbrev pub IsStage : ℕ → Type 0
 IsStage c = (n : ℕ) × (n < 16) × (c ≡ 4 + 2 * n)
 
--- of a sample,
+-- and of a sample
 abbrev pub IsSample : ℕ → Type 0
 IsSample c = (n : ℕ) × (n < 16) × (c ≡ 36 + 3 * n)
-
--- and of a scaler
-abbrev pub IsScaler : ℕ → Type 0
-IsScaler c = (n : ℕ) × (n < 2) × (c ≡ 87 + 7 * n)

@@ -7,8 +7,8 @@ ghost use Rattle.meaning.specs.Registers.{cells};
 ghost use Rattle.meaning.specs.Grants.{Terms, mostGrants};
 ghost use Rattle.meaning.specs.State.{wellFormed};
 ghost use Rattle.grants.specs.Kept.{Granting, Bounded, Keeps};
-ghost use Rattle.rows.specs.Scalers.{Scaler};
-ghost use Rattle.search.specs.Search.{lowest, IsStage, IsSample, IsScaler};
+ghost use Rattle.rows_video.specs.Scalers.{Scaler, IsScaler};
+ghost use Rattle.search.specs.Search.{lowest, IsStage, IsSample};
 use cells::Row;
 use grants::Bounds;
 use grants::Part;
@@ -20,7 +20,7 @@ use meaning::FIRST_VIDEO;
 // `starts` and `lasts` are the grants as they are kept, and `part` those of the addresses' role.
 fn bad_in_target(state: &[u8], starts: &Spans, lasts: &Spans, part: Part) -> usize
     requires formed { ⌜ T (wellFormed (wordsOf (now state))) ⌝ }
-    requires kept { ⌜ part .to ≤ mostGrants ⌝ }
+    requires inside { ⌜ part .to ≤ mostGrants ⌝ }
     ensures lowest { λ r. ⌜ ((g : Terms) → Granting g 1 (now (starts .entry)) (now (lasts .entry)) part → r ≡ lowest g (wordsOf (now (state .entry))) 0 4) ⌝ }
 {
     if !cells::fine(state, Cell(0), Row::AlphaConstants, starts, lasts, part) {
@@ -95,7 +95,7 @@ fn bad_in_overlay(state: &[u8], starts: &Spans, lasts: &Spans) -> usize
 fn bad_in_scaler(state: &[u8], own: usize, starts: &Spans, lasts: &Spans, part: Part) -> usize
     requires formed { ⌜ T (wellFormed (wordsOf (now state))) ⌝ }
     requires scaler { ⌜ IsScaler own ⌝ }
-    requires kept { ⌜ part .to ≤ mostGrants ⌝ }
+    requires inside { ⌜ part .to ≤ mostGrants ⌝ }
     ensures lowest { λ r. ⌜ ((g : Terms) (role : ℕ) → Scaler own role → Granting g role (now (starts .entry)) (now (lasts .entry)) part → r ≡ lowest g (wordsOf (now (state .entry))) own 7) ⌝ }
 {
     if !cells::fine(state, Cell(own), Row::Deinterlace, starts, lasts, part) {
@@ -133,7 +133,7 @@ fn bad_in_scaler(state: &[u8], own: usize, starts: &Spans, lasts: &Spans, part: 
 // another in a loop, which is compiled for them alone; one loop that asks each section what it is costs a state of few cells a quarter more.
 pub fn lowest_bad(state: &[u8], starts: &Spans, lasts: &Spans, bounds: &Bounds) -> usize
     requires formed { ⌜ T (wellFormed (wordsOf (now state))) ⌝ }
-    requires kept { ⌜ Bounded (now bounds) ⌝ }
+    requires bounded { ⌜ Bounded (now bounds) ⌝ }
     ensures lowest { λ r. ⌜ ((g : Terms) → Keeps g (now (starts .entry)) (now (lasts .entry)) (now (bounds .entry)) → r ≡ lowest g (wordsOf (now (state .entry))) 0 cells) ⌝ }
 {
     let target = bad_in_target(state, starts, lasts, grants::part_of(bounds, 1));

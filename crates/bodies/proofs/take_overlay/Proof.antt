@@ -14,8 +14,8 @@ use Rattle.meaning.specs.Grants.{Terms}
 use Rattle.meaning.specs.State.{apply}
 use Rattle.meaning.specs.Reader.{valueReason, wordReason}
 use Rattle.registers.specs.Names.{offsetOf}
-use Rattle.bodies.specs.Passes.{stored, bodyFrom}
-use Rattle.bodies.proofs.Bodies.{row-overlay, body-on, body-stop, body-done, as-answer, as-state, nth, first-offset, next-offset, word-asked, word-stored, among-words}
+use Rattle.bodies.specs.Passes.{applied, bodyFrom}
+use Rattle.bodies.proofs.Bodies.{row-overlay, body-on, body-stop, body-done, as-answer, as-state, nth, first-offset, next-offset, word-asked, word-applied, among-words}
 use Rattle.bodies.proofs.take_overlay.Statement.{statement}
 use Rattle.bodies.proofs.take_overlay.Tie as tie
 
@@ -40,15 +40,15 @@ asked c g =
     word-asked g (84 + s .args .index) (l .loop .at - s .args .first) (omega arith) (omega arith) (rw (row-overlay (s .args .index) (omega arith)) (omega arith)) (omega arith) _ own
 
 -- and what is stored of it
-kept : (k : tie.After-store Inv-loop μ-loop) → (g : Terms)
+left-by : (k : tie.After-store Inv-loop μ-loop) → (g : Terms)
     → let l = k .before .before .before .before .before .before in
     let s = l .before .before in
-    k .store .last .0 ≡ stored (Video (nth (offsetOf (cell (84 + s .args .index))) (l .loop .at - s .args .first))) (getD (wordsOf (s .args .batch .now)) (l .loop .at) 0) (l .loop .state)
-kept k g =
+    k .store .last .0 ≡ applied (Video (nth (offsetOf (cell (84 + s .args .index))) (l .loop .at - s .args .first))) (getD (wordsOf (s .args .batch .now)) (l .loop .at) 0) (l .loop .state)
+left-by k g =
     let l = k .before .before .before .before .before .before in
     let s = l .before .before in
     let own : k .store .last .0 ≡ apply (l .loop .state) (record { cell = cell (84 + l .loop .k); value = getD (wordsOf (s .args .batch .now)) (l .loop .at) 0 }) = rw (k .before .before .before .before .word .ensures) at (k .store .ensures) in
-    word-stored g (84 + s .args .index) (l .loop .at - s .args .first) (omega arith) (omega arith) (rw (row-overlay (s .args .index) (omega arith)) (omega arith)) (omega arith) _ _ own
+    word-applied g (84 + s .args .index) (l .loop .at - s .args .first) (omega arith) (omega arith) (rw (row-overlay (s .args .index) (omega arith)) (omega arith)) (omega arith) _ _ own
 
 loop-holds : tie.Need-loop-holds Inv-loop μ-loop
 loop-holds c = let s = c .before in (omega arith, omega arith, omega arith, λ g. ap (λ (k : Kind). bodyFrom g (s .args .first) k (slice (s .args .first) (s .args .end) (wordsOf (s .args .batch .now))) (s .args .state .now)) (first-offset (offsetOf (cell (84 + s .args .index))) (s .args .first)))
@@ -86,7 +86,7 @@ loop-again : tie.Need-loop-again Inv-loop μ-loop
 loop-again c = let r = c .before .before .before in
     let l = r .before .before .before in
     let s = l .before .before in
-    (omega arith, omega arith, omega arith, λ g. body-on g _ _ _ (among-words (s .args .batch .now) _ (s .pre .0 .1)) _ _ _ (l .loop .inv .3 g) (omega arith) (asked r g) (c .before .before .if1 .left) (next-offset _ _ _ _ (omega arith)) (kept c g))
+    (omega arith, omega arith, omega arith, λ g. body-on g _ _ _ (among-words (s .args .batch .now) _ (s .pre .0 .1)) _ _ _ (l .loop .inv .3 g) (omega arith) (asked r g) (c .before .before .if1 .left) (next-offset _ _ _ _ (omega arith)) (left-by c g))
 
 through-requires : tie.Need-through-requires Inv-loop μ-loop
 through-requires c κs = search needs

@@ -13,8 +13,8 @@ use Rattle.meaning.specs.Answers.{success, answer}
 use Rattle.meaning.specs.Reader.{wordReason}
 use Rattle.grants.specs.Kept.{Granting}
 use Rattle.headers.specs.Told.{Leads}
-use Rattle.bodies.specs.Passes.{stored, bodyFrom}
-use Rattle.bodies.proofs.Bodies.{body-on, body-stop, body-done, as-answer, as-state, same-setting, parameter-asked, parameter-stored, parameter-inside, data-narrow, among-words}
+use Rattle.bodies.specs.Passes.{applied, bodyFrom}
+use Rattle.bodies.proofs.Bodies.{body-on, body-stop, body-done, as-answer, as-state, same-setting, parameter-asked, parameter-applied, parameter-inside, data-narrow, among-words}
 use Rattle.bodies.proofs.take_parameters.Statement.{statement}
 use Rattle.bodies.proofs.take_parameters.Tie as tie
 
@@ -36,14 +36,14 @@ asked c g s leads given =
     parameter-asked _ _ g s _ leads (c .before .sub-address .ensures ∙ ap subAddress e) (c .before .before .«data» .ensures ∙ ap data24 e) (c .judge-parameter .ensures g given)
 
 -- and what is stored of it
-kept : (k : tie.After-store Inv-loop μ-loop) → (g : Terms) (s : ℕ)
+left-by : (k : tie.After-store Inv-loop μ-loop) → (g : Terms) (s : ℕ)
     → let l = k .before .before .before .before .before .before .before .before .before in
     let a = l .before .before .args in
-    Leads s (a .group) → Granting g 1 (a .starts .now) (a .lasts .now) (a .part) → k .store .last .0 ≡ stored (Parameter s) (getD (wordsOf (a .batch .now)) (l .loop .at) 0) (l .loop .state)
-kept k g s leads given =
+    Leads s (a .group) → Granting g 1 (a .starts .now) (a .lasts .now) (a .part) → k .store .last .0 ≡ applied (Parameter s) (getD (wordsOf (a .batch .now)) (l .loop .at) 0) (l .loop .state)
+left-by k g s leads given =
     let c = k .before .before .before .before in
     let e = c .before .before .before .word .ensures in
-    parameter-stored _ _ g s _ leads (c .before .sub-address .ensures ∙ ap subAddress e) (c .before .before .«data» .ensures ∙ ap data24 e) (c .judge-parameter .ensures g given) (k .before .before .if1 .left) _ (k .store .ensures)
+    parameter-applied _ _ g s _ leads (c .before .sub-address .ensures ∙ ap subAddress e) (c .before .before .«data» .ensures ∙ ap data24 e) (c .judge-parameter .ensures g given) (k .before .before .if1 .left) _ (k .store .ensures)
 
 loop-holds : tie.Need-loop-holds Inv-loop μ-loop
 loop-holds c = (omega arith, λ g s leads given. refl)
@@ -87,7 +87,7 @@ loop-again c =
     let r = c .before .before .before .before in
     let l = r .before .before .before .before .before in
     let b = l .before .before in
-    (omega arith, λ g s leads given. body-on g _ _ _ (among-words (b .args .batch .now) _ (b .pre .0 .1)) _ _ _ (l .loop .inv .1 g s leads given) (omega arith) (asked r g s leads given) (c .before .before .if1 .left) (same-setting _ _) (kept c g s leads given))
+    (omega arith, λ g s leads given. body-on g _ _ _ (among-words (b .args .batch .now) _ (b .pre .0 .1)) _ _ _ (l .loop .inv .1 g s leads given) (omega arith) (asked r g s leads given) (c .before .before .if1 .left) (same-setting _ _) (left-by c g s leads given))
 
 through-requires : tie.Need-through-requires Inv-loop μ-loop
 through-requires c κs = search needs

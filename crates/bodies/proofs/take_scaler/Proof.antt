@@ -15,9 +15,10 @@ use Rattle.meaning.specs.State.{apply}
 use Rattle.meaning.specs.Reader.{valueReason, wordReason}
 use Rattle.registers.specs.Names.{offsetOf}
 use Rattle.grants.specs.Kept.{Granting}
-use Rattle.rows.specs.Scalers.{Scaler}
-use Rattle.bodies.specs.Passes.{stored, bodyFrom}
-use Rattle.bodies.proofs.Bodies.{row-scaler, scaler-cells, body-on, body-stop, body-done, as-answer, as-state, nth, first-offset, next-offset, word-asked, word-stored, among-words}
+use Rattle.rows_video.specs.Scalers.{Scaler}
+use Rattle.rows_video.proofs.Scalers.{the-scaler, scaler-cells}
+use Rattle.bodies.specs.Passes.{applied, bodyFrom}
+use Rattle.bodies.proofs.Bodies.{row-scaler, body-on, body-stop, body-done, as-answer, as-state, nth, first-offset, next-offset, word-asked, word-applied, among-words}
 use Rattle.bodies.proofs.take_scaler.Statement.{statement}
 use Rattle.bodies.proofs.take_scaler.Tie as tie
 
@@ -39,22 +40,22 @@ asked c g role sc given =
     let l = c .before .before .before in
     let s = l .before .before in
     let own : c .scaler-reason .result ≡ valueReason g (registerAt (cell (s .args .base .0 + l .loop .k))) (getD (wordsOf (s .args .batch .now)) (l .loop .at) 0) = rw (c .before .word .ensures) at (c .scaler-reason .ensures g _ role sc given) in
-    word-asked g (s .args .base .0 + s .args .index) (l .loop .at - s .args .first) (omega (arith, scaler-cells (s .args .base .0) role sc .0)) (omega (arith, scaler-cells (s .args .base .0) role sc .1)) (rw (row-scaler (s .args .base .0) role (s .args .index) sc (omega arith)) (omega arith)) (omega arith) _ own
+    word-asked g (s .args .base .0 + s .args .index) (l .loop .at - s .args .first) (omega (arith, scaler-cells sc .0)) (omega (arith, scaler-cells sc .1)) (rw (row-scaler (s .args .base .0) role (s .args .index) sc (omega arith)) (omega arith)) (omega arith) _ own
 
 -- and what is stored of it
-kept : (k : tie.After-store Inv-loop μ-loop) → (g : Terms)
+left-by : (k : tie.After-store Inv-loop μ-loop) → (g : Terms)
     → let l = k .before .before .before .before .before .before in
     let s = l .before .before in
-    (role : ℕ) → Scaler (s .args .base .0) role → k .store .last .0 ≡ stored (Video (nth (offsetOf (cell (s .args .base .0 + s .args .index))) (l .loop .at - s .args .first))) (getD (wordsOf (s .args .batch .now)) (l .loop .at) 0) (l .loop .state)
-kept k g role sc =
+    (role : ℕ) → Scaler (s .args .base .0) role → k .store .last .0 ≡ applied (Video (nth (offsetOf (cell (s .args .base .0 + s .args .index))) (l .loop .at - s .args .first))) (getD (wordsOf (s .args .batch .now)) (l .loop .at) 0) (l .loop .state)
+left-by k g role sc =
     let l = k .before .before .before .before .before .before in
     let s = l .before .before in
     let own : k .store .last .0 ≡ apply (l .loop .state) (record { cell = cell (s .args .base .0 + l .loop .k); value = getD (wordsOf (s .args .batch .now)) (l .loop .at) 0 }) = rw (k .before .before .before .before .word .ensures) at (k .store .ensures) in
-    word-stored g (s .args .base .0 + s .args .index) (l .loop .at - s .args .first) (omega (arith, scaler-cells (s .args .base .0) role sc .0)) (omega (arith, scaler-cells (s .args .base .0) role sc .1)) (rw (row-scaler (s .args .base .0) role (s .args .index) sc (omega arith)) (omega arith)) (omega arith) _ _ own
+    word-applied g (s .args .base .0 + s .args .index) (l .loop .at - s .args .first) (omega (arith, scaler-cells sc .0)) (omega (arith, scaler-cells sc .1)) (rw (row-scaler (s .args .base .0) role (s .args .index) sc (omega arith)) (omega arith)) (omega arith) _ _ own
 
 -- the scaler's cells are cells of the state
 cells-of : (s : tie.Start Inv-loop μ-loop) → s .args .base .0 + 7 ≤ cells
-cells-of s = let sc = s .pre .1 .1 .0 in scaler-cells (s .args .base .0) (sc .0) (sc .1) .1
+cells-of s = scaler-cells (the-scaler (s .pre .1 .1 .0)) .1
 
 loop-holds : tie.Need-loop-holds Inv-loop μ-loop
 loop-holds c = let s = c .before in (omega arith, omega arith, omega arith, λ g role sc given. ap (λ (k : Kind). bodyFrom g (s .args .first) k (slice (s .args .first) (s .args .end) (wordsOf (s .args .batch .now))) (s .args .state .now)) (first-offset (offsetOf (cell (s .args .base .0 + s .args .index))) (s .args .first)))
@@ -92,7 +93,7 @@ loop-again : tie.Need-loop-again Inv-loop μ-loop
 loop-again c = let r = c .before .before .before in
     let l = r .before .before .before in
     let s = l .before .before in
-    (omega arith, omega arith, omega arith, λ g role sc given. body-on g _ _ _ (among-words (s .args .batch .now) _ (s .pre .0 .1)) _ _ _ (l .loop .inv .3 g role sc given) (omega arith) (asked r g role sc given) (c .before .before .if1 .left) (next-offset _ _ _ _ (omega arith)) (kept c g role sc))
+    (omega arith, omega arith, omega arith, λ g role sc given. body-on g _ _ _ (among-words (s .args .batch .now) _ (s .pre .0 .1)) _ _ _ (l .loop .inv .3 g role sc given) (omega arith) (asked r g role sc given) (c .before .before .if1 .left) (next-offset _ _ _ _ (omega arith)) (left-by c g role sc))
 
 through-requires : tie.Need-through-requires Inv-loop μ-loop
 through-requires c κs = search needs

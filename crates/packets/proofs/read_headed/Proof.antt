@@ -5,7 +5,8 @@ use native.Mathlib.Omega.{arith}
 use lib.Seq.{slice}
 use borrow.Author.Needs.{needs}
 use Rattle.meaning.specs.Words.{wordsOf}
-use Rattle.packets.proofs.Headed.{each, told, head-refused, head-passed, scaler-role, scaler-part, part-inside}
+use Rattle.rows_video.proofs.Scalers.{is-scaler, scaler-role}
+use Rattle.packets.proofs.Headed.{each, told, head-refused, head-passed, scaler-part, part-inside}
 use Rattle.packets.proofs.read_headed.Statement.{statement}
 use Rattle.packets.proofs.read_headed.Tie as tie
 
@@ -51,7 +52,7 @@ take-scaler-requires c κs =
     let s = o .before .before .before .before in
     let run = told _ (o .before .before .header-of .ensures) (o .opened3 .given .1) in
     let given = part-inside (s .args .bounds .now) _ (c .before .part-of .ensures) (s .pre .1 .1) (scaler-role (run .1)) in
-    ((omega arith, s .pre .0 .1), (omega (arith, run .0 .row), ((_, run .1), given)))
+    ((omega arith, s .pre .0 .1), (omega (arith, run .0 .row), (is-scaler (run .1), given)))
 
 returns : tie.Need-returns
 returns c =

@@ -8,9 +8,10 @@ use native.Mathlib.Nat.{add-zero}
 use Rattle.meaning.specs.Words.{wordsOf}
 use Rattle.meaning.specs.Grants.{Terms}
 use Rattle.grants.specs.Kept.{Granting}
-use Rattle.rows.specs.Scalers.{Scaler}
+use Rattle.rows_video.specs.Scalers.{Scaler}
 use Rattle.cells.specs.Rows as rows
-use Rattle.search.proofs.Sections.{the-scaler, no-address}
+use Rattle.rows_video.proofs.Scalers.{the-scaler}
+use Rattle.search.proofs.Sections.{no-address}
 use Rattle.search.proofs.Lowest.{Looked, all-left, look, passed}
 use Rattle.search.proofs.bad_in_scaler.Statement.{statement}
 use Rattle.search.proofs.bad_in_scaler.Tie as tie

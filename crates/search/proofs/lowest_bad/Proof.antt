@@ -6,8 +6,8 @@ use native.Mathlib.Omega.{arith}
 use Rattle.meaning.specs.Words.{wordsOf}
 use Rattle.meaning.specs.Registers.{cells}
 use Rattle.grants.specs.Kept.{Keeps}
-use Rattle.rows.specs.Scalers.{Scaler}
-use Rattle.search.proofs.Sections.{scaler-at, scaler-granted}
+use Rattle.rows_video.specs.Scalers.{Scaler}
+use Rattle.rows_video.proofs.Scalers.{scaler-at, scaler-granted}
 use Rattle.search.proofs.Lowest.{all-left, passed, Searched, in-section, Loop, begins, goes-on}
 use Rattle.search.proofs.lowest_bad.Statement.{statement}
 use Rattle.search.proofs.lowest_bad.Tie as tie

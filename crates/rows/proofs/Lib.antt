@@ -1,2 +1,0 @@
-pub mod Registers
-pub mod Judging
