@@ -62,19 +62,6 @@ fn lend(
     call(kind, part(from, n), part(grants, g), part_mut(into, bytes))
 }
 
-// The rows as slices: of a reference to an array the length is known.
-fn lend_rows(
-    kind: usize,
-    from: &Row,
-    n: usize,
-    grants: &Row,
-    g: usize,
-    into: &mut Row,
-    bytes: usize,
-) -> u64 {
-    lend(kind, from, n, grants, g, into, bytes)
-}
-
 // How many bytes of a list are lent: its words, and none to three bytes more, which must count for nothing.
 fn lent(desk: &Desk, list: usize, more: usize) -> usize {
     plus(len(desk, list) << 2, more % 4)
@@ -84,14 +71,18 @@ fn list_of(kind: usize) -> usize {
     if kind == READ { BATCH } else { STATE }
 }
 
-// Calls the first one, lent so many bytes of what stands at BEFORE; LEFT is what it leaves.
-pub(super) fn first(desk: &mut Desk, kind: usize, bytes: usize) -> u64 {
+// The rows as slices: of a reference to an array the length is known.
+fn lend_lists(desk: &Desk, kind: usize, into: &mut Row, bytes: usize) -> u64 {
     let from = row(desk, list_of(kind));
-    let grants = desk[GRANTS];
-    let mut into = desk[BEFORE];
     let n = lent(desk, list_of(kind), bytes);
     let g = lent(desk, GRANTS, bytes);
-    let told = lend_rows(kind, &from, n, &grants, g, &mut into, bytes);
+    lend(kind, &from, n, &desk[GRANTS], g, into, bytes)
+}
+
+// Calls the first one, lent so many bytes of what stands at BEFORE; LEFT is what it leaves.
+pub(super) fn first(desk: &mut Desk, kind: usize, bytes: usize) -> u64 {
+    let mut into = desk[BEFORE];
+    let told = lend_lists(desk, kind, &mut into, bytes);
     desk[LEFT] = into;
     told
 }

@@ -30,32 +30,35 @@ pub(super) const CELLS: usize = 8;
 
 const LENGTH: usize = 1023;
 
-fn wide(byte: u8) -> u32 {
-    byte as u32
+fn joined(first: u8, second: u8, third: u8, fourth: u8) -> u32 {
+    first as u32 | (second as u32) << 8 | (third as u32) << 16 | (fourth as u32) << 24
 }
 
-pub(super) fn at(desk: &Desk, list: usize, i: usize) -> u32 {
-    if list < 9 {
-        if i < 1024 {
-            let low = wide(desk[list][4 * i]) | wide(desk[list][4 * i + 1]) << 8;
-            return low | wide(desk[list][4 * i + 2]) << 16 | wide(desk[list][4 * i + 3]) << 24;
-        }
+fn word_in(row: &Row, i: usize) -> u32 {
+    if i < 1024 {
+        let k = 4 * i;
+        return joined(row[k], row[k + 1], row[k + 2], row[k + 3]);
     }
     0
 }
 
-fn lowest(word: u32) -> u8 {
-    (word % 256) as u8
+pub(super) fn at(desk: &Desk, list: usize, i: usize) -> u32 {
+    if list < 9 { word_in(&desk[list], i) } else { 0 }
+}
+
+fn put_in(row: &mut Row, i: usize, word: u32) {
+    if i < 1024 {
+        let k = 4 * i;
+        row[k] = (word % 256) as u8;
+        row[k + 1] = (word / 0x100 % 256) as u8;
+        row[k + 2] = (word / 0x10000 % 256) as u8;
+        row[k + 3] = (word / 0x1000000) as u8;
+    }
 }
 
 pub(super) fn put(desk: &mut Desk, list: usize, i: usize, word: u32) {
     if list < 9 {
-        if i < 1024 {
-            desk[list][4 * i] = lowest(word);
-            desk[list][4 * i + 1] = lowest(word >> 8);
-            desk[list][4 * i + 2] = lowest(word >> 16);
-            desk[list][4 * i + 3] = lowest(word >> 24);
-        }
+        put_in(&mut desk[list], i, word);
     }
 }
 
@@ -143,13 +146,9 @@ fn scrambled(x: u32) -> u32 {
     b ^ b << 5
 }
 
-fn mixed(x: u32) -> u32 {
-    let a = scrambled(sum(x, 0x9e3779b9));
-    let b = scrambled(sum(a, a << 7));
-    scrambled(sum(b, b << 11))
-}
-
 // The dice: of each number that a case has, and each throw of it, any word.
 pub(super) fn dice(seed: u32, throws: u32) -> u32 {
-    mixed(sum(seed, throws))
+    let a = scrambled(sum(sum(seed, throws), 0x9e3779b9));
+    let b = scrambled(sum(a, a << 7));
+    scrambled(sum(b, b << 11))
 }

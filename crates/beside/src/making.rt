@@ -156,8 +156,10 @@ fn some_reason(seed: u32, bad: u32) -> u32 {
 }
 
 fn push_value(desk: &mut Desk, cell: usize, bad: u32, seed: u32) {
-    let v = some_value(desk, cell, some_reason(dice(seed, 1), bad), seed);
-    note_value(desk, cell, judge_value(desk, cell, v));
+    let seen = &*desk;
+    let v = some_value(seen, cell, some_reason(dice(seed, 1), bad), seed);
+    let reason = judge_value(seen, cell, v);
+    note_value(desk, cell, reason);
     push(desk, BATCH, word_of(cell, v));
 }
 
@@ -262,9 +264,10 @@ fn changed(word: u32, before: u32, seed: u32) -> u32 {
 
 // Changes some word of the list.
 pub(super) fn change_word(desk: &mut Desk, list: usize, seed: u32) {
-    let i = rest_after(dice(seed, 1), len(desk, list));
-    let word = at(desk, list, i);
-    let before = at(desk, list, minus(i, 1));
+    let seen = &*desk;
+    let i = rest_after(dice(seed, 1), len(seen, list));
+    let word = at(seen, list, i);
+    let before = at(seen, list, minus(i, 1));
     put(desk, list, i, changed(word, before, dice(seed, 2)));
 }
 

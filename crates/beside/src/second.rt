@@ -60,9 +60,12 @@ fn whole_sum(a: u32, b: u32) -> u64 {
     std::num::wrapping_add_u64(a as u64, b as u64)
 }
 
-// What a grant says of an address of a role: 2 where it breaks the rules, 1 where it covers the address.
-fn grant_says(whose: u32, address: u32, owner: u32, start: u32, length: u32, reach: u32) -> u32 {
-    let end = whole_sum(start, length);
+// What the grant at a place says of an address of a role: 2 where it breaks the rules, 1 where it covers the address.
+fn grant_says(desk: &Desk, i: usize, whose: u32, address: u32) -> u32 {
+    let owner = at(desk, GRANTS, i);
+    let start = at(desk, GRANTS, plus(i, 1));
+    let end = whole_sum(start, at(desk, GRANTS, plus(i, 2)));
+    let reach = at(desk, GRANTS, plus(i, 3));
     if owner < 1 || owner > 3 || reach < 1 || end > 0x1_0000_0000 {
         return 2;
     }
@@ -79,11 +82,7 @@ fn grants_say(desk: &Desk, whose: u32, address: u32) -> u32 {
     let mut said = if n > 256 || n % 4 != 0 { 2u32 } else { 0u32 };
     for i in 0..n {
         if i % 4 == 0 {
-            let owner = at(desk, GRANTS, i);
-            let start = at(desk, GRANTS, plus(i, 1));
-            let length = at(desk, GRANTS, plus(i, 2));
-            let reach = at(desk, GRANTS, plus(i, 3));
-            said = said | grant_says(whose, address, owner, start, length, reach);
+            said = said | grant_says(desk, i, whose, address);
         }
     }
     said
@@ -140,11 +139,6 @@ fn value_is_permitted(cell: usize, v: u32) -> bool {
     }
 }
 
-// The address that a value of that register holds.
-fn address_of(whose: u32, v: u32) -> u32 {
-    if whose == 1 { v << 8 } else { v & 0x1ffffff0 }
-}
-
 // Reason 7, 8 or 9, or 0 where the register takes the value.
 pub(super) fn judge_value(desk: &Desk, cell: usize, v: u32) -> u32 {
     if v & mask(cell) != 0 {
@@ -154,7 +148,8 @@ pub(super) fn judge_value(desk: &Desk, cell: usize, v: u32) -> u32 {
         return 8;
     }
     let whose = role(cell);
-    if whose == 0 || grants_say(desk, whose, address_of(whose, v)) == 1 {
+    let address = if whose == 1 { v << 8 } else { v & 0x1ffffff0 };
+    if whose == 0 || grants_say(desk, whose, address) == 1 {
         0
     } else {
         9
@@ -222,25 +217,32 @@ fn what_is(header: u32, setting: u32, behind: u32, word: u32) -> usize {
     }
 }
 
+// Where the header behind the packet stands whose header is word i of the batch.
+fn next_header(desk: &Desk, i: usize) -> usize {
+    plus(plus(i, 1), (at(desk, BATCH, i) >> 16) as usize)
+}
+
+// What word i of the batch is, in the packet whose header stands at start.
+fn what_stands(desk: &Desk, start: usize, i: usize) -> u32 {
+    let header = at(desk, BATCH, start);
+    let setting = at(desk, BATCH, plus(start, 1));
+    let behind = narrow(minus(i, start));
+    narrow(what_is(header, setting, behind, at(desk, BATCH, i)))
+}
+
 // Notes what each word of the batch is, by the headers' counts alone. Answers where the next header would stand.
 fn mark_words(desk: &mut Desk) -> usize {
     let n = len(desk, BATCH);
     let mut start = 0usize;
     let mut next = 0usize;
     for i in 0..n {
-        let word = at(desk, BATCH, i);
+        let seen = &*desk;
         if i == next {
             start = i;
-            next = plus(plus(i, 1), (word >> 16) as usize);
+            next = next_header(seen, i);
         }
-        let header = at(desk, BATCH, start);
-        let setting = at(desk, BATCH, plus(start, 1));
-        put(
-            desk,
-            CELLS,
-            i,
-            narrow(what_is(header, setting, narrow(minus(i, start)), word)),
-        );
+        let what = what_stands(seen, start, i);
+        put(desk, CELLS, i, what);
     }
     next
 }
@@ -270,9 +272,10 @@ fn judge_words(desk: &Desk, next: usize) -> u64 {
 fn store(desk: &mut Desk) {
     let n = len(desk, BATCH);
     for i in 0..n {
-        let cell = at(desk, CELLS, i) as usize;
+        let seen = &*desk;
+        let cell = at(seen, CELLS, i) as usize;
+        let word = at(seen, BATCH, i);
         if cell < 101 {
-            let word = at(desk, BATCH, i);
             put(desk, RIGHT, cell, value_in(cell, word));
             put(desk, RIGHT, cell + 101, 1);
         }
@@ -337,10 +340,11 @@ pub(super) fn word_of(cell: usize, v: u32) -> u32 {
 
 // Opens a packet for the cell, with no value yet, unless the open one has its setting. Answers where its header stands.
 fn open_packet(desk: &mut Desk, cell: usize, open: usize) -> usize {
-    if cell < 84 && at(desk, ROUGH, plus(open, 1)) == setting_of(cell) {
+    let seen = &*desk;
+    if cell < 84 && at(seen, ROUGH, plus(open, 1)) == setting_of(cell) {
         return open;
     }
-    let header = len(desk, ROUGH);
+    let header = len(seen, ROUGH);
     push(desk, ROUGH, header_of(cell, 0));
     if cell < 84 {
         push(desk, ROUGH, setting_of(cell));
@@ -351,9 +355,10 @@ fn open_packet(desk: &mut Desk, cell: usize, open: usize) -> usize {
 // One more value for the open packet. Answers where its header stands.
 fn put_cell(desk: &mut Desk, cell: usize, open: usize) -> usize {
     let header = open_packet(desk, cell, open);
-    let grown = sum(at(desk, ROUGH, header), 0x10000);
+    let seen = &*desk;
+    let grown = sum(at(seen, ROUGH, header), 0x10000);
+    let v = at(seen, STATE, cell);
     put(desk, ROUGH, header, grown);
-    let v = at(desk, STATE, cell);
     push(desk, ROUGH, word_of(cell, v));
     header
 }
@@ -384,11 +389,12 @@ fn lay_out(desk: &mut Desk, room: usize) -> u64 {
 
 // Writes the state into so many bytes of RIGHT.
 pub(super) fn write(desk: &mut Desk, bytes: usize) -> u64 {
-    let bad = judge_lists(desk, STATE);
+    let seen = &*desk;
+    let bad = judge_lists(seen, STATE);
     if bad != 0 {
         return answer(bad, 0);
     }
-    let refused = lowest_refused(desk);
+    let refused = lowest_refused(seen);
     if refused != NONE {
         return answer(12, refused);
     }

@@ -46,15 +46,19 @@ fn end_line() {
     io::write_all(STDOUT_FILENO, b"\n");
 }
 
-// Counts a difference; the first five are told, with the answers as numbers.
-fn note_difference(desk: &mut Desk, first: u64, other: u64) {
-    add_one(desk, DIFFERENCES);
+// The first five differences are told, with the answers as numbers.
+fn tell_difference(desk: &Desk, first: u64, other: u64) {
     if at(desk, COUNTS, DIFFERENCES) < 6 {
         say_count(desk, b"difference, in the family below: call=", CALLS);
         say(b" first=", first);
         say(b" second=", other);
         end_line();
     }
+}
+
+fn note_difference(desk: &mut Desk, first: u64, other: u64) {
+    add_one(desk, DIFFERENCES);
+    tell_difference(desk, first, other);
 }
 
 // The two agree, in every byte too, and a refusal has changed none.
@@ -82,8 +86,9 @@ fn check(desk: &mut Desk, kind: usize, bytes: usize) -> u64 {
 
 pub(super) fn check_read(desk: &mut Desk) -> u64 {
     copy(desk, STATE, BEFORE);
-    let more = len(desk, BATCH) % 4;
-    check(desk, READ, plus(len(desk, STATE) << 2, more))
+    let seen = &*desk;
+    let bytes = plus(len(seen, STATE) << 2, len(seen, BATCH) % 4);
+    check(desk, READ, bytes)
 }
 
 // The state written, into a buffer of so many bytes.
@@ -92,11 +97,15 @@ pub(super) fn check_write(desk: &mut Desk, bytes: usize) -> u64 {
     check(desk, WRITE, bytes)
 }
 
-pub(super) fn end_family(desk: &mut Desk, name: &[u8]) {
+fn tell_family(desk: &Desk, name: &[u8]) {
     io::write_all(STDOUT_FILENO, name);
     say_count(desk, b" calls=", CALLS);
     say_count(desk, b" differences so far=", DIFFERENCES);
     end_line();
+}
+
+pub(super) fn end_family(desk: &mut Desk, name: &[u8]) {
+    tell_family(desk, name);
     put(desk, COUNTS, CALLS, 0);
 }
 

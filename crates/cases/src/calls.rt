@@ -46,44 +46,37 @@ fn call_list(state: &[u8], s: usize, out: &mut [u8], room: usize) -> u64 {
 }
 
 // The rows as the slices that a call takes: of a reference to an array the length is known.
-fn lend_read(batch: &Row, b: usize, grants: &Row, g: usize, state: &mut Row, s: usize) -> u64 {
+fn lend_read(desk: &Desk, state: &mut Row) -> u64 {
+    let b = len(desk, BATCH);
+    let g = len(desk, GRANTS);
+    let s = len(desk, LEFT);
     let more = plus(plus(b, g), s);
     call_read(
-        batch,
+        &desk[BATCH],
         lent(b, more),
-        grants,
+        &desk[GRANTS],
         lent(g, more),
         state,
         lent(s, more),
     )
 }
 
-fn lend_list(state: &Row, s: usize, out: &mut Row, room: usize) -> u64 {
-    call_list(state, lent(s, room), out, room)
+fn lend_list(desk: &Desk, out: &mut Row, room: usize) -> u64 {
+    call_list(&desk[LISTED], lent(len(desk, LISTED), room), out, room)
 }
 
 // Reads the batch into the state at LEFT.
 pub(super) fn read(desk: &mut Desk) -> u64 {
-    let batch = desk[BATCH];
-    let grants = desk[GRANTS];
     let mut state = desk[LEFT];
-    let told = lend_read(
-        &batch,
-        len(desk, BATCH),
-        &grants,
-        len(desk, GRANTS),
-        &mut state,
-        len(desk, LEFT),
-    );
+    let told = lend_read(desk, &mut state);
     desk[LEFT] = state;
     told
 }
 
 // Lists the state at LISTED into the first bytes of LEFT, as many as the room.
 pub(super) fn list(desk: &mut Desk, room: usize) -> u64 {
-    let state = desk[LISTED];
     let mut out = desk[LEFT];
-    let told = lend_list(&state, len(desk, LISTED), &mut out, room);
+    let told = lend_list(desk, &mut out, room);
     desk[LEFT] = out;
     told
 }

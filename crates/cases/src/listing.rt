@@ -225,10 +225,11 @@ fn is_well_formed(desk: &Desk) -> bool {
 
 // Lists the state at LISTED into the first bytes of RIGHT, as many as the room.
 pub(super) fn list(desk: &mut Desk, room: usize) -> u64 {
-    if !is_well_formed(desk) {
+    let seen = &*desk;
+    if !is_well_formed(seen) {
         return answer(1, 0);
     }
-    let all = shares(desk);
+    let all = shares(seen);
     let n = plus((all / 256) as usize, head(all % 256) as usize);
     if n > room {
         return answer(11, 0);

@@ -125,8 +125,9 @@ fn byte_at(page: &[u8], i: usize) -> u8 {
 }
 
 fn leave_cell(desk: &mut Desk, i: usize) {
-    let cell = at(desk, STORED, i) as usize;
-    let v = at(desk, STORED, plus(i, 1));
+    let seen = &*desk;
+    let cell = at(seen, STORED, i) as usize;
+    let v = at(seen, STORED, plus(i, 1));
     put(desk, RIGHT, cell, v);
     put(desk, RIGHT, plus(cell, 101), 1);
 }
@@ -143,15 +144,12 @@ fn leave(desk: &mut Desk) {
 }
 
 // What the line states, of a case that so many words stand in front of. Reasons 1 and 2 stand at 0.
-fn stated_behind(reason: u32, place: u32, front: usize) -> u64 {
+fn stated(desk: &Desk, front: usize) -> u64 {
+    let reason = at(desk, LINE, 0);
     match reason {
         1 | 2 => answer(reason, 0),
-        _ => answer(reason, plus(front, place as usize)),
+        _ => answer(reason, plus(front, at(desk, LINE, 1) as usize)),
     }
-}
-
-fn stated(desk: &Desk, front: usize) -> u64 {
-    stated_behind(at(desk, LINE, 0), at(desk, LINE, 1), front)
 }
 
 // The case alone, on the state that is there.
@@ -170,8 +168,9 @@ fn full_state(desk: &mut Desk) {
 
 // Adds that packet of the pool.
 fn push_packet(desk: &mut Desk, packet: usize) {
-    let start = at(desk, STARTS, packet) as usize;
-    let words = (at(desk, POOL, start) >> 16) as usize;
+    let seen = &*desk;
+    let start = at(seen, STARTS, packet) as usize;
+    let words = (at(seen, POOL, start) >> 16) as usize;
     push_part(desk, POOL, start, plus(plus(start, words), 1), BATCH);
 }
 
@@ -187,9 +186,11 @@ fn push_front(desk: &mut Desk, packets: u32) {
 // further on.
 fn case_behind(desk: &mut Desk, packets: u32) {
     push_front(desk, packets);
-    let front = len(desk, BATCH);
-    push_part(desk, KEPT, 0, len(desk, KEPT), BATCH);
-    check_read(desk, stated(desk, front), UNSTATED);
+    let seen = &*desk;
+    let n = len(seen, KEPT);
+    let expected = stated(seen, len(seen, BATCH));
+    push_part(desk, KEPT, 0, n, BATCH);
+    check_read(desk, expected, UNSTATED);
 }
 
 fn written(desk: &mut Desk) {
@@ -217,24 +218,22 @@ fn is_listed(desk: &Desk, code: u32) -> bool {
     false
 }
 
-fn stated_as(reason: u32, place: u32) -> u64 {
+// The answer that stands in that place of the line, and in the next.
+fn stated_at(desk: &Desk, i: usize) -> u64 {
+    let reason = at(desk, LINE, i);
     if reason == 99 {
         UNSTATED
     } else {
-        answer(reason, place as usize)
+        answer(reason, at(desk, LINE, plus(i, 1)) as usize)
     }
-}
-
-// The answer that stands in that place of the line, and in the next.
-fn stated_at(desk: &Desk, i: usize) -> u64 {
-    stated_as(at(desk, LINE, i), at(desk, LINE, plus(i, 1)))
 }
 
 // The case with that code of the field: the line's second answer where it is listed, and else its first.
 fn check_code(desk: &mut Desk, code: u32) {
-    let unlisted = stated_at(desk, 4);
-    let listed = stated_at(desk, 6);
-    if is_listed(desk, code) {
+    let seen = &*desk;
+    let unlisted = stated_at(seen, 4);
+    let listed = stated_at(seen, 6);
+    if is_listed(seen, code) {
         check_read(desk, listed, unlisted);
     } else {
         check_read(desk, unlisted, listed);
@@ -251,10 +250,12 @@ fn with_code(word: u32, code: u32, shift: u32) -> u32 {
 
 // Every code of the field.
 fn sweep_codes(desk: &mut Desk, i: usize, codes: u32) {
-    let word = at(desk, BATCH, i);
+    let seen = &*desk;
+    let word = at(seen, BATCH, i);
+    let shift = at(seen, LINE, 2);
     for code in 0..codes {
         begin_case(desk, code);
-        put(desk, BATCH, i, with_code(word, code, at(desk, LINE, 2)));
+        put(desk, BATCH, i, with_code(word, code, shift));
         check_code(desk, code);
     }
     put(desk, BATCH, i, word);
@@ -270,35 +271,32 @@ fn codes_of(shift: u32, width: u32) -> u32 {
 
 // Every code of the field, under as many sub-types as the line says.
 fn sweep(desk: &mut Desk) {
-    let times = at(desk, LINE, 0);
+    let seen = &*desk;
+    let times = at(seen, LINE, 0);
+    let i = at(seen, LINE, 1) as usize;
+    let codes = codes_of(at(seen, LINE, 2), at(seen, LINE, 3));
     for n in 0..times {
-        sweep_codes(
-            desk,
-            at(desk, LINE, 1) as usize,
-            codes_of(at(desk, LINE, 2), at(desk, LINE, 3)),
-        );
+        sweep_codes(desk, i, codes);
         let setting = at(desk, BATCH, 1);
         put(desk, BATCH, 1, sum(setting, 0x01000000));
     }
 }
 
 // A state has 202 words; a list of grants whole grants, up to 64.
-fn is_whole(list: usize, n: u32) -> bool {
-    if list == STATE {
+fn length_answer(list: usize, n: u32, reason: u32) -> u64 {
+    let whole = if list == STATE {
         n == 202
     } else {
         n % 4 == 0 && n <= 256
-    }
-}
-
-fn length_answer(list: usize, n: u32, reason: u32) -> u64 {
-    answer(if is_whole(list, n) { 0 } else { reason }, 0)
+    };
+    answer(if whole { 0 } else { reason }, 0)
 }
 
 fn lengths(desk: &mut Desk) {
-    let list = at(desk, LINE, 0) as usize;
-    let reason = at(desk, LINE, 1);
-    let most = at(desk, LINE, 2);
+    let seen = &*desk;
+    let list = at(seen, LINE, 0) as usize;
+    let reason = at(seen, LINE, 1);
+    let most = at(seen, LINE, 2);
     for n in 0..most {
         begin_case(desk, n);
         cut(desk, list, n as usize);
@@ -307,8 +305,11 @@ fn lengths(desk: &mut Desk) {
 }
 
 fn add_to_pool(desk: &mut Desk) {
-    push(desk, STARTS, narrow(len(desk, POOL)));
-    push_part(desk, BATCH, 0, len(desk, BATCH), POOL);
+    let seen = &*desk;
+    let start = len(seen, POOL);
+    let n = len(seen, BATCH);
+    push(desk, STARTS, narrow(start));
+    push_part(desk, BATCH, 0, n, POOL);
 }
 
 // The end of the listing that begins at start: where an empty line follows.

@@ -76,10 +76,8 @@ fn say_answer(key: &[u8], told: u64) {
     say(b" at ", told / 256);
 }
 
-// Counts a difference; a family's first five are told.
-fn note_difference(desk: &mut Desk, told: u64, expected: u64) {
-    add_one(desk, DIFFERENCES);
-    add_one(desk, ALL_DIFFERENCES);
+// A family's first five differences are told.
+fn tell_difference(desk: &Desk, told: u64, expected: u64) {
     if at(desk, COUNTS, DIFFERENCES) < 6 {
         say_count(desk, b"difference, in the family below: line=", LINE_NUMBER);
         say_count(desk, b" case=", CASE);
@@ -87,6 +85,12 @@ fn note_difference(desk: &mut Desk, told: u64, expected: u64) {
         say_answer(b" expected=", expected);
         end_line();
     }
+}
+
+fn note_difference(desk: &mut Desk, told: u64, expected: u64) {
+    add_one(desk, DIFFERENCES);
+    add_one(desk, ALL_DIFFERENCES);
+    tell_difference(desk, told, expected);
 }
 
 fn note(desk: &mut Desk, told: u64, expected: u64, fine: bool) {
@@ -173,7 +177,11 @@ fn say_part(page: &[u8], start: usize, end: usize) {
     }
 }
 
-fn tell_family(desk: &Desk, page: &[u8]) {
+// A family with no case is not told, so neither is the time before the first.
+pub(super) fn end_family(desk: &Desk, page: &[u8]) {
+    if at(desk, COUNTS, CALLS) == 0 {
+        return;
+    }
     io::write_all(STDOUT_FILENO, b"family=");
     say_part(
         page,
@@ -183,13 +191,6 @@ fn tell_family(desk: &Desk, page: &[u8]) {
     say_count(desk, b" calls=", CALLS);
     say_count(desk, b" differences=", DIFFERENCES);
     end_line();
-}
-
-// A family with no case is not told, so neither is the time before the first.
-pub(super) fn end_family(desk: &Desk, page: &[u8]) {
-    if at(desk, COUNTS, CALLS) > 0 {
-        tell_family(desk, page);
-    }
 }
 
 pub(super) fn tell_reasons(desk: &Desk) {

@@ -1,4 +1,1 @@
-pub mod Cells
-pub mod Runs
-pub mod Packets
-pub mod Emitted
+pub mod Videos

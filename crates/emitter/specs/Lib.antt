@@ -1,2 +1,1 @@
-pub mod Emitted
-pub mod Closed
+pub mod Videos

@@ -70,6 +70,7 @@ use Rattle.reader.proofs.read.Reads as read
 use Rattle.search.proofs.lowest_bad.Reads as lowest-bad
 use Rattle.writer.proofs.write.Reads as write
 use Rattle.lister.proofs.list.Reads as list
+use Rattle.emitter_3d.proofs.emit_3d.Reads as emit-3d
 use Rattle.emitter.proofs.emit.Reads as emit
 use Rattle.bodies.proofs.take_parameters.Reads as take-parameters
 use Rattle.bodies.proofs.take_overlay.Reads as take-overlay
@@ -295,6 +296,9 @@ write-one κs a r r' s s' p q = let same = one-answer (p .0) (q .0) in (same, on
 
 pub list-one : (κs : _) (a : _) (r r' : _) (s s' : _) → list.Learnt κs a r s → list.Learnt κs a r' s' → (r ≡ r') × (now (s .1 .0) ≡ now (s' .1 .0))
 list-one κs a r r' s s' p q = (one-answer (p .0) (q .0), one-answer (p .1) (q .1))
+
+pub emit-3d-one : (κs : _) (a : _) (r r' : _) (s s' : _) → emit-3d.Learnt κs a r s → emit-3d.Learnt κs a r' s' → now (s .1 .0) ≡ now (s' .1 .0)
+emit-3d-one κs a r r' s s' p q = one-answer p q
 
 pub emit-one : (κs : _) (a : _) (r r' : _) (s s' : _) → emit.Learnt κs a r s → emit.Learnt κs a r' s' → now (s .1 .0) ≡ now (s' .1 .0)
 emit-one κs a r r' s s' p q = one-answer p q

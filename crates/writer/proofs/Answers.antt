@@ -21,7 +21,7 @@ use Rattle.meaning.specs.Answers.{badState, badGrants, noRoom, notWritable, suc
 use Rattle.meaning.specs.Writer.{written, needFor, lowestBad, exceptAt, writeAnswer}
 use Rattle.meaning.proofs.Writing.{need-is-length}
 use Rattle.meaning.proofs.Round.{Lowest, lowest-told}
-use Rattle.emitter.specs.Emitted.{Narrow}
+use Rattle.emitter_3d.specs.Emitted.{Narrow}
 use Rattle.search.specs.Search.{orEnd, lowest}
 
 -- ---- what the number tells of the search among all cells

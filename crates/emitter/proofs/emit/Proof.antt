@@ -13,8 +13,8 @@ use Rattle.meaning.specs.Writer.{written}
 use Rattle.meaning.proofs.Writing.{sections-length}
 use Rattle.words.specs.Stores.{putWords}
 use Rattle.words.proofs.Stores.{length-put, put-append, put-over}
-use Rattle.emitter.specs.Emitted.{wordsOfSections}
-use Rattle.emitter.proofs.Emitted.{written-parts, written-length}
+use Rattle.emitter_3d.specs.Emitted.{wordsOfSections}
+use Rattle.emitter.proofs.Videos.{written-parts, written-length}
 use borrow.Author.Needs.{needs}
 use Rattle.emitter.proofs.emit.Statement.{statement}
 use Rattle.emitter.proofs.emit.Tie as tie

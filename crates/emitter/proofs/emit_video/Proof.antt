@@ -4,9 +4,10 @@ use Prim.Native.Nat.{_-_, _≤_}
 use native.Mathlib.Omega.{arith}
 use Rattle.meaning.specs.Words.{wordsOf}
 use Rattle.meaning.specs.Registers.{firstVideo, endVideo, sectionsVideo}
-use Rattle.emitter.specs.Emitted.{videoWords, wordsOfSections}
-use Rattle.emitter.proofs.Runs.{Runs, begun, same-long, inRow, row-room, row-went, row-past}
-use Rattle.emitter.proofs.Emitted.{video-row}
+use Rattle.emitter_3d.specs.Emitted.{wordsOfSections}
+use Rattle.emitter.specs.Videos.{videoWords}
+use Rattle.emitter_3d.proofs.Runs.{Runs, begun, same-long, inRow, row-room, row-went, row-past}
+use Rattle.emitter.proofs.Videos.{video-row}
 use Rattle.emitter.proofs.emit_video.Statement.{statement}
 use Rattle.emitter.proofs.emit_video.Tie as tie
 

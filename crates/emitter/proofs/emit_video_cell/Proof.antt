@@ -8,7 +8,8 @@ use Rattle.meaning.specs.declared.VideoOffset.{VideoOffset}
 use Rattle.meaning.specs.Words.{wordsOf}
 use Rattle.meaning.specs.State.{markAt}
 use Rattle.words.proofs.Stores.{length-put}
-use Rattle.emitter.proofs.Cells.{emits-none, video-none, video-one, two-stored, offset-short}
+use Rattle.emitter_3d.proofs.Cells.{emits-none, two-stored}
+use Rattle.emitter.proofs.Videos.{video-none, video-one, offset-short}
 use borrow.Author.Needs.{needs}
 use Rattle.emitter.proofs.emit_video_cell.Statement.{statement}
 use Rattle.emitter.proofs.emit_video_cell.Tie as tie

@@ -15,27 +15,6 @@ len-requires c κs = search needs
 loop-holds : tie.Need-loop-holds Inv-loop μ-loop
 loop-holds c = search needs
 
-at-requires : tie.Need-at-requires Inv-loop μ-loop
-at-requires c κs = search needs
-
-plus-requires : tie.Need-plus-requires Inv-loop μ-loop
-plus-requires c κs = search needs
-
-at-requires-2 : tie.Need-at-requires-2 Inv-loop μ-loop
-at-requires-2 c κs = search needs
-
-plus-requires-2 : tie.Need-plus-requires-2 Inv-loop μ-loop
-plus-requires-2 c κs = search needs
-
-at-requires-3 : tie.Need-at-requires-3 Inv-loop μ-loop
-at-requires-3 c κs = search needs
-
-plus-requires-3 : tie.Need-plus-requires-3 Inv-loop μ-loop
-plus-requires-3 c κs = search needs
-
-at-requires-4 : tie.Need-at-requires-4 Inv-loop μ-loop
-at-requires-4 c κs = search needs
-
 grant-says-requires : tie.Need-grant-says-requires Inv-loop μ-loop
 grant-says-requires c κs = search needs
 
@@ -59,13 +38,6 @@ grants-say-spec =
     μ-loop
     len-requires
     loop-holds
-    at-requires
-    plus-requires
-    at-requires-2
-    plus-requires-2
-    at-requires-3
-    plus-requires-3
-    at-requires-4
     grant-says-requires
     add-i
     loop-less

@@ -15,38 +15,11 @@ len-requires c κs = search needs
 loop-holds : tie.Need-loop-holds Inv-loop μ-loop
 loop-holds c = search needs
 
-at-requires : tie.Need-at-requires Inv-loop μ-loop
-at-requires c κs = search needs
+next-header-requires : tie.Need-next-header-requires Inv-loop μ-loop
+next-header-requires c κs = search needs
 
-plus-requires : tie.Need-plus-requires Inv-loop μ-loop
-plus-requires c κs = search needs
-
-cast-plus : tie.Need-cast-plus Inv-loop μ-loop
-cast-plus c = search needs
-
-plus-requires-2 : tie.Need-plus-requires-2 Inv-loop μ-loop
-plus-requires-2 c κs = search needs
-
-at-requires-2 : tie.Need-at-requires-2 Inv-loop μ-loop
-at-requires-2 c κs = search needs
-
-plus-requires-3 : tie.Need-plus-requires-3 Inv-loop μ-loop
-plus-requires-3 c κs = search needs
-
-at-requires-3 : tie.Need-at-requires-3 Inv-loop μ-loop
-at-requires-3 c κs = search needs
-
-minus-requires : tie.Need-minus-requires Inv-loop μ-loop
-minus-requires c κs = search needs
-
-narrow-requires : tie.Need-narrow-requires Inv-loop μ-loop
-narrow-requires c κs = search needs
-
-what-is-requires : tie.Need-what-is-requires Inv-loop μ-loop
-what-is-requires c κs = search needs
-
-narrow-requires-2 : tie.Need-narrow-requires-2 Inv-loop μ-loop
-narrow-requires-2 c κs = search needs
+what-stands-requires : tie.Need-what-stands-requires Inv-loop μ-loop
+what-stands-requires c κs = search needs
 
 put-requires : tie.Need-put-requires Inv-loop μ-loop
 put-requires c κs = search needs
@@ -71,17 +44,8 @@ mark-words-spec =
     μ-loop
     len-requires
     loop-holds
-    at-requires
-    plus-requires
-    cast-plus
-    plus-requires-2
-    at-requires-2
-    plus-requires-3
-    at-requires-3
-    minus-requires
-    narrow-requires
-    what-is-requires
-    narrow-requires-2
+    next-header-requires
+    what-stands-requires
     put-requires
     add-i
     loop-less

@@ -4,22 +4,19 @@ use Rattle.cases.proofs.page.sweep.Statement.{statement}
 use Rattle.cases.proofs.page.sweep.Tie as tie
 
 abbrev Inv-loop : tie.InvT-loop
-Inv-loop desk₀ times n₀ desk n = Unit
+Inv-loop desk₀ times i codes n₀ desk n = Unit
 
 abbrev μ-loop : tie.MeasureT-loop
-μ-loop desk₀ times n₀ desk n = times - n
+μ-loop desk₀ times i codes n₀ desk n = times - n
 
 at-requires : tie.Need-at-requires Inv-loop μ-loop
 at-requires c κs = search needs
 
-loop-holds : tie.Need-loop-holds Inv-loop μ-loop
-loop-holds c = search needs
-
 at-requires-2 : tie.Need-at-requires-2 Inv-loop μ-loop
 at-requires-2 c κs = search needs
 
-cast-sweep-codes : tie.Need-cast-sweep-codes Inv-loop μ-loop
-cast-sweep-codes c = search needs
+cast-i : tie.Need-cast-i Inv-loop μ-loop
+cast-i c = search needs
 
 at-requires-3 : tie.Need-at-requires-3 Inv-loop μ-loop
 at-requires-3 c κs = search needs
@@ -29,6 +26,9 @@ at-requires-4 c κs = search needs
 
 codes-of-requires : tie.Need-codes-of-requires Inv-loop μ-loop
 codes-of-requires c κs = search needs
+
+loop-holds : tie.Need-loop-holds Inv-loop μ-loop
+loop-holds c = search needs
 
 sweep-codes-requires : tie.Need-sweep-codes-requires Inv-loop μ-loop
 sweep-codes-requires c κs = search needs
@@ -61,12 +61,12 @@ sweep-spec =
     Inv-loop
     μ-loop
     at-requires
-    loop-holds
     at-requires-2
-    cast-sweep-codes
+    cast-i
     at-requires-3
     at-requires-4
     codes-of-requires
+    loop-holds
     sweep-codes-requires
     at-requires-5
     sum-requires

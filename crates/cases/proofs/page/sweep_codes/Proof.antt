@@ -4,22 +4,22 @@ use Rattle.cases.proofs.page.sweep_codes.Statement.{statement}
 use Rattle.cases.proofs.page.sweep_codes.Tie as tie
 
 abbrev Inv-loop : tie.InvT-loop
-Inv-loop desk₀ i codes word code₀ desk code = Unit
+Inv-loop desk₀ i codes word shift code₀ desk code = Unit
 
 abbrev μ-loop : tie.MeasureT-loop
-μ-loop desk₀ i codes word code₀ desk code = codes - code
+μ-loop desk₀ i codes word shift code₀ desk code = codes - code
 
 at-requires : tie.Need-at-requires Inv-loop μ-loop
 at-requires c κs = search needs
+
+at-requires-2 : tie.Need-at-requires-2 Inv-loop μ-loop
+at-requires-2 c κs = search needs
 
 loop-holds : tie.Need-loop-holds Inv-loop μ-loop
 loop-holds c = search needs
 
 begin-case-requires : tie.Need-begin-case-requires Inv-loop μ-loop
 begin-case-requires c κs = search needs
-
-at-requires-2 : tie.Need-at-requires-2 Inv-loop μ-loop
-at-requires-2 c κs = search needs
 
 with-code-requires : tie.Need-with-code-requires Inv-loop μ-loop
 with-code-requires c κs = search needs
@@ -52,9 +52,9 @@ sweep-codes-spec =
     Inv-loop
     μ-loop
     at-requires
+    at-requires-2
     loop-holds
     begin-case-requires
-    at-requires-2
     with-code-requires
     put-requires
     check-code-requires

@@ -6,11 +6,11 @@ use Prim.Native.Nat.{_+_, _*_, _/_, _<_, _^_}
 use native.Mathlib.Omega.{arith}
 use lib.ListN.{length}
 use Rattle.meaning.specs.Words.{wordsOf}
-use Rattle.emitter.specs.Emitted.{parameterOf}
-use Rattle.emitter.proofs.Cells.{emits-none, parameter-none, parameter-one}
+use Rattle.emitter_3d.specs.Emitted.{parameterOf}
+use Rattle.emitter_3d.proofs.Cells.{emits-none, parameter-none, parameter-one}
 use borrow.Author.Needs.{needs}
-use Rattle.emitter.proofs.emit_parameter.Statement.{statement}
-use Rattle.emitter.proofs.emit_parameter.Tie as tie
+use Rattle.emitter_3d.proofs.emit_parameter.Statement.{statement}
+use Rattle.emitter_3d.proofs.emit_parameter.Tie as tie
 
 mark-requires : tie.Need-mark-requires
 mark-requires c κs = search needs

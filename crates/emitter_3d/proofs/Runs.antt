@@ -7,7 +7,7 @@ use native.Mathlib.Omega.{arith}
 use lib.ListN.{length, length-append, drop-of-length-le}
 use Rattle.words.specs.Stores.{putWords}
 use Rattle.words.proofs.Stores.{put-none, length-put, put-append}
-use Rattle.emitter.specs.Emitted.{Room}
+use Rattle.emitter_3d.specs.Emitted.{Room}
 
 pub record Runs (all old : List ℕ) (start : ℕ) (left out : List ℕ) (at : ℕ) : Type 0 where
   pub onward : start ≤ at

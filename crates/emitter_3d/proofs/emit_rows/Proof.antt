@@ -3,11 +3,11 @@
 use Prim.Native.Nat.{_+_, _-_}
 use native.Mathlib.Omega.{arith}
 use Rattle.meaning.specs.Words.{wordsOf}
-use Rattle.emitter.specs.Emitted.{parametersFrom}
-use Rattle.emitter.proofs.Runs.{Runs, begun, same-long, inRow, row-room-next, row-went, row-past}
-use Rattle.emitter.proofs.Emitted.{rowAt, rows-row}
-use Rattle.emitter.proofs.emit_rows.Statement.{statement}
-use Rattle.emitter.proofs.emit_rows.Tie as tie
+use Rattle.emitter_3d.specs.Emitted.{parametersFrom}
+use Rattle.emitter_3d.proofs.Runs.{Runs, begun, same-long, inRow, row-room-next, row-went, row-past}
+use Rattle.emitter_3d.proofs.Emitted.{rowAt, rows-row}
+use Rattle.emitter_3d.proofs.emit_rows.Statement.{statement}
+use Rattle.emitter_3d.proofs.emit_rows.Tie as tie
 
 abbrev Inv-loop : tie.InvT-loop
 Inv-loop state rows out₀ at cell address end₀ k₀ out end k =

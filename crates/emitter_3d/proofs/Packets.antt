@@ -11,10 +11,10 @@ use Rattle.meaning.specs.Batch.{offset3D}
 use Rattle.meaning.specs.Writer.{headerWord, settingWord}
 use Rattle.words.specs.Stores.{putWords}
 use Rattle.words.proofs.Stores.{put-none, length-put, put-append, put-before}
-use Rattle.emitter.specs.Emitted.{packetWords, Room}
-use Rattle.emitter.specs.Closed.{closedEnd, closedWords}
-use Rattle.emitter.proofs.Cells.{emits-none}
-use Rattle.emitter.proofs.Runs.{Done}
+use Rattle.emitter_3d.specs.Emitted.{packetWords, Room}
+use Rattle.emitter_3d.specs.Closed.{closedEnd, closedWords}
+use Rattle.emitter_3d.proofs.Cells.{emits-none}
+use Rattle.emitter_3d.proofs.Runs.{Done}
 
 -- the head before the parameters
 headed : (out : List ℕ) (at h s : ℕ) (ps : List ℕ) → putWords (putWords out (at + 2) ps) at (h ∷ s ∷ []) ≡ putWords out at (h ∷ s ∷ ps)

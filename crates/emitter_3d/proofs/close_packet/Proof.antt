@@ -6,11 +6,11 @@ use native.Mathlib.Omega.{arith}
 use lib.ListN.{length}
 use borrow.Author.Tests.{eq-eqb, ne-eqb}
 use Rattle.words.proofs.Stores.{length-put}
-use Rattle.emitter.specs.Closed.{closedEnd, closedWords}
-use Rattle.emitter.proofs.Cells.{two-stored}
+use Rattle.emitter_3d.specs.Closed.{closedEnd, closedWords}
+use Rattle.emitter_3d.proofs.Cells.{two-stored}
 use borrow.Author.Needs.{needs}
-use Rattle.emitter.proofs.close_packet.Statement.{statement}
-use Rattle.emitter.proofs.close_packet.Tie as tie
+use Rattle.emitter_3d.proofs.close_packet.Statement.{statement}
+use Rattle.emitter_3d.proofs.close_packet.Tie as tie
 
 add-if1 : tie.Need-add-if1
 add-if1 c = search needs

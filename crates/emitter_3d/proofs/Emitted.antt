@@ -1,22 +1,20 @@
 -- The words as they are emitted are the words of the table's sections.
 -- Assumes nothing.
 use mathlib.Core.Path.{_≡_, refl, sym, ap, ap₂, _∙_}
-use mathlib.Core.List.{List, [], _∷_, _++_, map, map-append, append-assoc}
+use mathlib.Core.List.{List, [], _∷_, _++_, map, append-assoc}
 use Prim.Native.Nat.{ℕ, zero, suc, _+_, _*_, _-_, _^_}
 use native.Mathlib.Omega.{arith}
 use native.Mathlib.Nat.{add-zero, add-suc}
-use lib.ListN.{length, length-append}
+use lib.ListN.{length}
 use Rattle.laws.specs.Lists.{join, from}
 use Rattle.laws.proofs.Lists.{join-append}
 use Rattle.meaning.specs.declared.SubAddress.{SubAddress}
-use Rattle.meaning.specs.declared.VideoOffset.{VideoOffset}
-use Rattle.meaning.specs.Registers.{cell, firstVideo, endVideo, Row, Group, Section, of3D, ofVideo, targetGroup, stage, sample, overlay, scaler, stageSection, sampleSection, sections3D, sectionsVideo, sections}
+use Rattle.meaning.specs.Registers.{cell, Row, Group, Section, of3D, targetGroup, stage, sample, stageSection, sampleSection, sections3D}
 use Rattle.meaning.specs.State.{valueAt, marked}
-use Rattle.meaning.specs.Writer.{headerWord, settingWord, ifSo, parameters, packet3DOf, packetsVideo, packetsIn, packetsAmong, wordsFor, written}
+use Rattle.meaning.specs.Writer.{settingWord, parameters, packet3DOf, packetsIn, packetsAmong}
 use Rattle.meaning.proofs.Writing.{so-append}
-use Rattle.registers.specs.Names.{offsetOf}
-use Rattle.emitter.specs.Emitted.{wordsOfSections, parameterOf, parametersFrom, packetWords, targetWords, seriesFrom, many, videoWords}
-use Rattle.emitter.proofs.Runs.{inRow}
+use Rattle.emitter_3d.specs.Emitted.{wordsOfSections, parameterOf, parametersFrom, packetWords, targetWords, seriesFrom, many}
+use Rattle.emitter_3d.proofs.Runs.{inRow}
 
 -- rows whose cells go on from number c, and their sub-addresses from a
 abbrev OnFrom : ℕ → ℕ → List (Row SubAddress) → Type 0
@@ -64,40 +62,7 @@ module _ (st : List ℕ) where
       ap (packet3DOf (settingWord 0x02 (0x20 + k)))
       (rows-on (36 + 3 * k) 0x30 (sample k .rows) (refl, refl, (ap cell (omega arith), refl, (ap cell (omega arith), refl, tt))))) 0 many
 
-  -- ---- rows of video registers
-
-  abbrev videoRows : List (List (Row VideoOffset))
-  videoRows = overlay ∷ scaler 87 0x2000 2 ∷ scaler 94 0x3000 3 ∷ []
-
-  -- the words of one of them
-  abbrev ofRow : Row VideoOffset → List ℕ
-  ofRow r = join (ifSo (marked st (r .cell)) (headerWord 1 (r .name .0) ∷ valueAt st (r .cell) ∷ []) [])
-
-  row-words : (rs : List (Row VideoOffset)) → join (packetsVideo (marked st) st rs) ≡ join (map ofRow rs)
-  unfolding packetsVideo
-  row-words [] = refl
-  row-words (r ∷ rs) =
-      ap join (sym (so-append (marked st (r .cell)) (headerWord 1 (r .name .0) ∷ valueAt st (r .cell) ∷ []) [] (packetsVideo (marked st) st rs)))
-      ∙ join-append (ifSo (marked st (r .cell)) _ []) (packetsVideo (marked st) st rs)
-      ∙ ap (λ (more : List ℕ). ofRow r ++ more) (row-words rs)
-
-  rows-words : (rss : List (List (Row VideoOffset))) → wordsOfSections st (map ofVideo rss) ≡ join (map ofRow (join rss))
-  unfolding packetsAmong
-  rows-words [] = refl
-  rows-words (rs ∷ rss) =
-      join-append (packetsVideo (marked st) st rs) (packetsAmong (marked st) st (map ofVideo rss))
-      ∙ ap₂ (λ (a b : List ℕ). a ++ b) (row-words rs) (rows-words rss)
-      ∙ sym (ap join (map-append ofRow rs (join rss)) ∙ join-append (map ofRow rs) (map ofRow (join rss)))
-
-  -- each bears the offset of its cell
-  tabled : join (map ofRow (join videoRows)) ≡ inRow (videoWords st) firstVideo (endVideo - firstVideo)
-  unfolding inRow videoWords offsetOf overlay scaler
-  tabled = refl
-
-  pub video-row : wordsOfSections st sectionsVideo ≡ inRow (videoWords st) firstVideo (endVideo - firstVideo)
-  video-row = rows-words videoRows ∙ tabled
-
-  -- ---- the table's two parts
+  -- ---- sections one after another
 
   packets-append : (ss ts : List Section) → packetsAmong (marked st) st (ss ++ ts) ≡ packetsAmong (marked st) st ss ++ packetsAmong (marked st) st ts
   unfolding packetsAmong
@@ -106,7 +71,7 @@ module _ (st : List ℕ) where
       ap (λ (ps : List (List ℕ)). packetsIn (marked st) st s ++ ps) (packets-append ss ts)
       ∙ sym (append-assoc (packetsIn (marked st) st s) (packetsAmong (marked st) st ss) (packetsAmong (marked st) st ts))
 
-  both : (ss ts : List Section) → wordsOfSections st (ss ++ ts) ≡ wordsOfSections st ss ++ wordsOfSections st ts
+  pub both : (ss ts : List Section) → wordsOfSections st (ss ++ ts) ≡ wordsOfSections st ss ++ wordsOfSections st ts
   both ss ts = ap join (packets-append ss ts) ∙ join-append (packetsAmong (marked st) st ss) (packetsAmong (marked st) st ts)
 
   pub words-3D : wordsOfSections st sections3D ≡ targetWords st ++ (seriesFrom st 4 2 0x50 0x00 0 many ++ seriesFrom st 36 3 0x30 0x20 0 many)
@@ -115,13 +80,6 @@ module _ (st : List ℕ) where
       join-append (packetsIn (marked st) st (of3D targetGroup)) (packetsAmong (marked st) st (map stageSection (from 0 many) ++ map sampleSection (from 0 many)))
       ∙ ap₂ (λ (a b : List ℕ). a ++ b) target-words
       (both (map stageSection (from 0 many)) (map sampleSection (from 0 many)) ∙ ap₂ (λ (a b : List ℕ). a ++ b) stages-words samples-words)
-
-  pub written-parts : written st ≡ wordsOfSections st sections3D ++ wordsOfSections st sectionsVideo
-  unfolding written wordsFor sections
-  written-parts = both sections3D sectionsVideo
-
-  pub written-length : length (written st) ≡ length (wordsOfSections st sections3D) + length (wordsOfSections st sectionsVideo)
-  written-length = ap length written-parts ∙ length-append (wordsOfSections st sections3D) (wordsOfSections st sectionsVideo)
 
   -- ---- the loops' words, number by number
 

@@ -7,12 +7,12 @@ use native.Mathlib.Omega.{arith}
 use lib.ListN.{length}
 use Rattle.meaning.specs.Words.{wordsOf}
 use Rattle.meaning.specs.Registers.{sections3D}
-use Rattle.emitter.specs.Emitted.{targetWords, seriesFrom, many, wordsOfSections}
-use Rattle.emitter.proofs.Emitted.{words-3D}
-use Rattle.emitter.proofs.Runs.{Runs, begun, same-long, within, room-here, went, ended}
+use Rattle.emitter_3d.specs.Emitted.{targetWords, seriesFrom, many, wordsOfSections}
+use Rattle.emitter_3d.proofs.Emitted.{words-3D}
+use Rattle.emitter_3d.proofs.Runs.{Runs, begun, same-long, within, room-here, went, ended}
 use borrow.Author.Needs.{needs}
-use Rattle.emitter.proofs.emit_3d.Statement.{statement}
-use Rattle.emitter.proofs.emit_3d.Tie as tie
+use Rattle.emitter_3d.proofs.emit_3d.Statement.{statement}
+use Rattle.emitter_3d.proofs.emit_3d.Tie as tie
 
 -- the words of the target, of the stages and of the samples
 abbrev target : tie.Start → List ℕ

@@ -8,13 +8,13 @@ use lib.ListN.{length}
 use Rattle.meaning.specs.Words.{wordsOf}
 use Rattle.meaning.specs.Registers.{firstVideo}
 use Rattle.meaning.proofs.Writing.{in-series}
-use Rattle.emitter.specs.Emitted.{parametersFrom, seriesFrom, many}
-use Rattle.emitter.proofs.Cells.{parameters-few}
-use Rattle.emitter.proofs.Runs.{Runs, begun, same-long, full, inRow, row-room, row-went, row-past}
-use Rattle.emitter.proofs.Packets.{room-parameters, head-asks, closed}
-use Rattle.emitter.proofs.Emitted.{groupAt, series-row}
-use Rattle.emitter.proofs.emit_series.Statement.{statement}
-use Rattle.emitter.proofs.emit_series.Tie as tie
+use Rattle.emitter_3d.specs.Emitted.{parametersFrom, seriesFrom, many}
+use Rattle.emitter_3d.proofs.Cells.{parameters-few}
+use Rattle.emitter_3d.proofs.Runs.{Runs, begun, same-long, full, inRow, row-room, row-went, row-past}
+use Rattle.emitter_3d.proofs.Packets.{room-parameters, head-asks, closed}
+use Rattle.emitter_3d.proofs.Emitted.{groupAt, series-row}
+use Rattle.emitter_3d.proofs.emit_series.Statement.{statement}
+use Rattle.emitter_3d.proofs.emit_series.Tie as tie
 
 abbrev Inv-loop : tie.InvT-loop
 Inv-loop state first rows low sub out₀ start end at₀ n₀ out at n =

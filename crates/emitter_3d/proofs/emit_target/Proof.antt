@@ -8,13 +8,13 @@ use lib.ListN.{length, length-append}
 use Rattle.meaning.specs.Words.{wordsOf}
 use Rattle.meaning.specs.Registers.{cell}
 use Rattle.meaning.specs.Writer.{settingWord}
-use Rattle.emitter.specs.Emitted.{parameterOf, parametersFrom, packetWords, targetWords, Room}
-use Rattle.emitter.proofs.Cells.{parameter-few, parameters-few}
-use Rattle.emitter.proofs.Runs.{Runs, Done, begun, room-next, went, ended}
-use Rattle.emitter.proofs.Packets.{room-parameters, head-asks, closed}
+use Rattle.emitter_3d.specs.Emitted.{parameterOf, parametersFrom, packetWords, targetWords, Room}
+use Rattle.emitter_3d.proofs.Cells.{parameter-few, parameters-few}
+use Rattle.emitter_3d.proofs.Runs.{Runs, Done, begun, room-next, went, ended}
+use Rattle.emitter_3d.proofs.Packets.{room-parameters, head-asks, closed}
 use borrow.Author.Needs.{needs}
-use Rattle.emitter.proofs.emit_target.Statement.{statement}
-use Rattle.emitter.proofs.emit_target.Tie as tie
+use Rattle.emitter_3d.proofs.emit_target.Statement.{statement}
+use Rattle.emitter_3d.proofs.emit_target.Tie as tie
 
 -- the parameter of the first row, and those of the others
 abbrev first : tie.Start → List ℕ

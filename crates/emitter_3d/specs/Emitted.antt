@@ -1,4 +1,4 @@
--- The words of a state as they are emitted: of a cell, of rows that follow one another, of a packet, of groups of equal size, of video cells.
+-- The words of a state as they are emitted: of a cell, of rows that follow one another, of a packet, of groups of equal size.
 -- proofs/Emitted ties them to the words of the table's sections.
 -- Assumes nothing.
 use mathlib.Core.List.{List, [], _∷_, _++_}
@@ -9,8 +9,7 @@ use Rattle.meaning.specs.declared.Cell.{Cell}
 use Rattle.meaning.specs.declared.SubAddress.{SubAddress}
 use Rattle.meaning.specs.Registers.{cell, firstVideo, Section}
 use Rattle.meaning.specs.State.{valueAt, markAt, marked}
-use Rattle.meaning.specs.Writer.{headerWord, settingWord, ifSo, packet3DOf, packetsAmong}
-use Rattle.registers.specs.Names.{offsetOf}
+use Rattle.meaning.specs.Writer.{settingWord, ifSo, packet3DOf, packetsAmong}
 
 -- the words of sections of the table: all their marked cells
 abbrev pub wordsOfSections : List ℕ → List Section → List ℕ
@@ -43,10 +42,6 @@ seriesFrom st first rows low sub i (suc n) =
 -- stages and samples are numbered from 0 to 15
 abbrev pub many : ℕ
 many = 16
-
--- the packet of a video cell, if it is marked
-unfoldable pub videoWords : List ℕ → ℕ → List ℕ
-videoWords st c = join (ifSo (marked st (cell c)) (headerWord 1 (offsetOf (cell c) .0) ∷ valueAt st (cell c) ∷ []) [])
 
 -- there is room in the bytes for words from a place on; no words need none
 abbrev pub Room : List ℕ → ℕ → List ℕ → Type 0
