@@ -21,9 +21,9 @@ use Rattle.rules.proofs.alpha_constants.Reads as alpha-constants
 use Rattle.rules.proofs.location.Reads as location
 use Rattle.rules.proofs.bytes_per_pixel.Reads as bytes-per-pixel
 use Rattle.rules.proofs.format_byte.Reads as format-byte
-use Rattle.rules.proofs.levels.Reads as levels
-use Rattle.rules.proofs.filters.Reads as filters
-use Rattle.rules.proofs.mapping.Reads as mapping
+use Rattle.sampling.proofs.levels.Reads as levels
+use Rattle.sampling.proofs.filters.Reads as filters
+use Rattle.sampling.proofs.mapping.Reads as mapping
 use Rattle.rules.proofs.alpha_select.Reads as alpha-select
 use Rattle.rules.proofs.memory_location.Reads as memory-location
 use Rattle.registers.proofs.name_of.Reads as name-of

@@ -14,12 +14,12 @@ use meaning::BIT_SET;
 use meaning::NOT_GRANTED;
 use meaning::SUCCESS;
 use rules::alpha_constants;
-use rules::filters;
 use rules::format_byte;
-use rules::levels;
 use rules::location;
-use rules::mapping;
 use rules::must_be_clear;
+use sampling::filters;
+use sampling::levels;
+use sampling::mapping;
 
 // 8 where the value rule is broken. It is asked once the mask has been: so no value is looked at twice.
 fn ruled_reason(obeyed: bool) -> u32

@@ -1,9 +1,9 @@
--- `rules::mapping_code` meets its contract: the range tells the bound, and the key 7 is the other test.
+-- `sampling::mapping_code` meets its contract: the range tells the bound, and the key 7 is the other test.
 -- Assumes nothing.
 use Rattle.laws.proofs.Arms.{tests}
-use Rattle.rules.proofs.Codes.{at-most}
-use Rattle.rules.proofs.mapping_code.Statement.{statement}
-use Rattle.rules.proofs.mapping_code.Tie as tie
+use Rattle.sampling.proofs.Codes.{at-most}
+use Rattle.sampling.proofs.mapping_code.Statement.{statement}
+use Rattle.sampling.proofs.mapping_code.Tie as tie
 
 returns : tie.Need-returns
 returns c = rw (c .match .keys1)

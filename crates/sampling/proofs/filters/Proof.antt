@@ -1,4 +1,4 @@
--- `rules::filters` meets its contract: the tests are those of the definition, in its order.
+-- `sampling::filters` meets its contract: the tests are those of the definition, in its order.
 -- Assumes nothing.
 use mathlib.Core.Path.{_≡_}
 use Prim.Native.Nat.{ℕ, _/_}
@@ -6,10 +6,10 @@ use native.Mathlib.Nat.{div-one}
 use Rattle.laws.proofs.Arms.{told-true}
 use Rattle.meaning.specs.Words.{bits}
 use Rattle.meaning.specs.Registers.{bothTwo, filters}
-use Rattle.rules.proofs.Codes.{both-low, row}
+use Rattle.sampling.proofs.Codes.{both-low, row}
 use borrow.Author.Needs.{needs}
-use Rattle.rules.proofs.filters.Statement.{statement}
-use Rattle.rules.proofs.filters.Tie as tie
+use Rattle.sampling.proofs.filters.Statement.{statement}
+use Rattle.sampling.proofs.filters.Tie as tie
 
 returns : tie.Need-returns
 unfolding filters

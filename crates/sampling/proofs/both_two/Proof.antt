@@ -1,9 +1,9 @@
--- `rules::both_two` meets its contract: at 2 the other has to be 2, else it must not be.
+-- `sampling::both_two` meets its contract: at 2 the other has to be 2, else it must not be.
 -- Assumes nothing.
 use Rattle.laws.proofs.Arms.{tests}
-use Rattle.rules.proofs.Codes.{implies-false}
-use Rattle.rules.proofs.both_two.Statement.{statement}
-use Rattle.rules.proofs.both_two.Tie as tie
+use Rattle.sampling.proofs.Codes.{implies-false}
+use Rattle.sampling.proofs.both_two.Statement.{statement}
+use Rattle.sampling.proofs.both_two.Tie as tie
 
 returns : tie.Need-returns
 returns c = search tests

@@ -1,10 +1,10 @@
--- `rules::depth_code` meets its contract: each key is one of the list, and the rest is none of it.
+-- `sampling::depth_code` meets its contract: each key is one of the list, and the rest is none of it.
 -- Assumes nothing.
 use Rattle.laws.specs.Lists.{some}
 use Rattle.laws.specs.Tests.{oneOf}
 use Rattle.laws.proofs.Arms.{spans}
-use Rattle.rules.proofs.depth_code.Statement.{statement}
-use Rattle.rules.proofs.depth_code.Tie as tie
+use Rattle.sampling.proofs.depth_code.Statement.{statement}
+use Rattle.sampling.proofs.depth_code.Tie as tie
 
 returns : tie.Need-returns
 unfolding some oneOf

@@ -1,11 +1,11 @@
--- `rules::mapping` meets its contract: the tests are those of the definition, in its order.
+-- `sampling::mapping` meets its contract: the tests are those of the definition, in its order.
 -- Assumes nothing.
 use native.Mathlib.Nat.{div-one}
 use Rattle.meaning.specs.Registers.{mapping}
-use Rattle.rules.proofs.Codes.{row}
+use Rattle.sampling.proofs.Codes.{row}
 use borrow.Author.Needs.{needs}
-use Rattle.rules.proofs.mapping.Statement.{statement}
-use Rattle.rules.proofs.mapping.Tie as tie
+use Rattle.sampling.proofs.mapping.Statement.{statement}
+use Rattle.sampling.proofs.mapping.Tie as tie
 
 volume-code-requires : tie.Need-volume-code-requires
 volume-code-requires c κs = search needs

@@ -1,9 +1,9 @@
--- `rules::filter_code` meets its contract: the range tells the bound.
+-- `sampling::filter_code` meets its contract: the range tells the bound.
 -- Assumes nothing.
 use Rattle.laws.proofs.Arms.{tests}
-use Rattle.rules.proofs.Codes.{at-most}
-use Rattle.rules.proofs.filter_code.Statement.{statement}
-use Rattle.rules.proofs.filter_code.Tie as tie
+use Rattle.sampling.proofs.Codes.{at-most}
+use Rattle.sampling.proofs.filter_code.Statement.{statement}
+use Rattle.sampling.proofs.filter_code.Tie as tie
 
 returns : tie.Need-returns
 returns c = search (at-most, tests)

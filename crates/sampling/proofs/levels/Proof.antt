@@ -1,11 +1,11 @@
--- `rules::levels` meets its contract: the tests are those of the definition, in its order.
+-- `sampling::levels` meets its contract: the tests are those of the definition, in its order.
 -- Assumes nothing.
 use native.Mathlib.Nat.{div-one}
 use Rattle.meaning.specs.Registers.{levels}
-use Rattle.rules.proofs.Codes.{row}
+use Rattle.sampling.proofs.Codes.{row}
 use borrow.Author.Needs.{needs}
-use Rattle.rules.proofs.levels.Statement.{statement}
-use Rattle.rules.proofs.levels.Tie as tie
+use Rattle.sampling.proofs.levels.Statement.{statement}
+use Rattle.sampling.proofs.levels.Tie as tie
 
 level-code-requires : tie.Need-level-code-requires
 level-code-requires c κs = search needs
