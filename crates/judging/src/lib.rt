@@ -1,4 +1,5 @@
-// What speaks against a word by its position: a parameter of a group, a word of a run. What each row of the table asks is in `rows`.
+// What speaks against a word by its position: a parameter of a group, a word of a run. What each row of the table asks is in
+// `rows_3d` and `rows_video`.
 ghost use mathlib.Core.Path.{_≡_};
 ghost use Prim.Native.Nat.{ℕ, _+_, _≤_, _<_, _^_};
 ghost use Rattle.meaning.specs.Registers.{firstVideo, cell, registerAt};

@@ -6,8 +6,8 @@ use mathlib.Core.List.{List}
 use Prim.Native.Nat.{ℕ, zero, suc, _+_, _*_, _-_, _≤_, _<_}
 use native.Mathlib.Omega.{arith}
 use native.Mathlib.Nat.{zero-add, suc-add, add-suc, add-zero, mul-zero, mul-suc}
-use lib.Dec.{T, ltb}
-use mir.Facts.{ltb-yes}
+use lib.Dec.{T, ltb, leb}
+use mir.Facts.{ltb-yes, leb-yes}
 use Rattle.laws.proofs.Arms.{told-true, told-false}
 use Rattle.meaning.specs.declared.Found.{Found}
 use Rattle.meaning.specs.declared.Found.the-variants.{At}
@@ -75,6 +75,17 @@ module _ {g : Terms} {st : List ℕ} {i n c : ℕ} (left : Left g st i n c) wher
   -- none are left
   pub passed : c ≡ i + n → c ≡ lowest g st i n
   passed e = let none : 0 ≡ i + n - c = omega arith in sym (none-here g st c) ∙ ap (lowest g st c) none ∙ left .same
+
+-- what the search among the first m of n cells tells: one of them may not be written, or the search goes on behind them
+pub record Begun (g : Terms) (st : List ℕ) (i n m low : ℕ) : Type 0 where
+  pub bad : low < i + m → low ≡ lowest g st i n
+  pub past : i + m ≤ low → Left g st i n (i + m)
+
+pub begun : {g : Terms} {st : List ℕ} {i n low : ℕ} (m : ℕ) → T (leb m n) → low ≡ lowest g st i m → Begun g st i n m low
+begun {g} {st} {i} {n} {low} m t told =
+    let l : m ≤ n = leb-yes t in
+    let here : Left g st i n i = record { same = ap (lowest g st i) (omega arith) } in
+    record { bad = λ h. stopped here m (omega arith) told h; past = λ h. went here m (i + m) refl (omega arith) told h }
 
 -- what the answer for cell c tells, the one of n that has k before it: it may not be written, or the search goes on behind it
 pub record Looked (g : Terms) (st : List ℕ) (i n k c : ℕ) (fine : Bool) : Type 0 where

@@ -1,6 +1,6 @@
 // The search for the lowest cell of a state that may not be written.
 ghost use mathlib.Core.Path.{_≡_};
-ghost use Prim.Native.Nat.{ℕ, _≤_};
+ghost use Prim.Native.Nat.{ℕ, _+_, _≤_};
 ghost use lib.Dec.{T};
 ghost use Rattle.meaning.specs.Words.{wordsOf};
 ghost use Rattle.meaning.specs.Registers.{cells};
@@ -8,6 +8,7 @@ ghost use Rattle.meaning.specs.Grants.{Terms, mostGrants};
 ghost use Rattle.meaning.specs.State.{wellFormed};
 ghost use Rattle.grants.specs.Kept.{Granting, Bounded, Keeps};
 ghost use Rattle.rows_video.specs.Scalers.{Scaler, IsScaler};
+ghost use Rattle.cells.specs.Rows.{RowOf};
 ghost use Rattle.search.specs.Search.{lowest, IsStage, IsSample};
 use cells::Row;
 use grants::Bounds;
@@ -38,20 +39,37 @@ fn bad_in_target(state: &[u8], starts: &Spans, lasts: &Spans, part: Part) -> usi
     4
 }
 
+// Two cells that follow one another and hold no address, by the rows of their registers: a stage, and the first two of a sample.
+fn bad_in_two(
+    state: &[u8],
+    first: usize,
+    low: Row,
+    high: Row,
+    starts: &Spans,
+    lasts: &Spans,
+) -> usize
+    requires formed { ⌜ T (wellFormed (wordsOf (now state))) ⌝ }
+    requires low { ⌜ RowOf low first 0 ⌝ }
+    requires high { ⌜ RowOf high (first + 1) 0 ⌝ }
+    ensures lowest { λ r. ⌜ ((g : Terms) → r ≡ lowest g (wordsOf (now (state .entry))) first 2) ⌝ }
+{
+    let none = Part { from: 0, to: 0 };
+    if !cells::fine(state, Cell(first), low, starts, lasts, none) {
+        return first;
+    }
+    if !cells::fine(state, Cell(first + 1), high, starts, lasts, none) {
+        return first + 1;
+    }
+    first + 2
+}
+
 // A stage, whose first cell is `first`.
 fn bad_in_stage(state: &[u8], first: usize, starts: &Spans, lasts: &Spans) -> usize
     requires formed { ⌜ T (wellFormed (wordsOf (now state))) ⌝ }
     requires stage { ⌜ IsStage first ⌝ }
     ensures lowest { λ r. ⌜ ((g : Terms) → r ≡ lowest g (wordsOf (now (state .entry))) first 2) ⌝ }
 {
-    let none = Part { from: 0, to: 0 };
-    if !cells::fine(state, Cell(first), Row::Stage, starts, lasts, none) {
-        return first;
-    }
-    if !cells::fine(state, Cell(first + 1), Row::Stage, starts, lasts, none) {
-        return first + 1;
-    }
-    first + 2
+    bad_in_two(state, first, Row::Stage, Row::Stage, starts, lasts)
 }
 
 // A sample.
@@ -60,13 +78,11 @@ fn bad_in_sample(state: &[u8], first: usize, starts: &Spans, lasts: &Spans) -> u
     requires sample { ⌜ IsSample first ⌝ }
     ensures lowest { λ r. ⌜ ((g : Terms) → r ≡ lowest g (wordsOf (now (state .entry))) first 3) ⌝ }
 {
+    let bad = bad_in_two(state, first, Row::Levels, Row::Filters, starts, lasts);
+    if bad < first + 2 {
+        return bad;
+    }
     let none = Part { from: 0, to: 0 };
-    if !cells::fine(state, Cell(first), Row::Levels, starts, lasts, none) {
-        return first;
-    }
-    if !cells::fine(state, Cell(first + 1), Row::Filters, starts, lasts, none) {
-        return first + 1;
-    }
     if !cells::fine(state, Cell(first + 2), Row::Mapping, starts, lasts, none) {
         return first + 2;
     }

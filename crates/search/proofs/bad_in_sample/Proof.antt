@@ -1,74 +1,60 @@
--- Cell by cell, the search from there on is what is left of it.
+-- A sample is two cells without an address, and a third behind them.
 -- Assumes nothing.
-use mathlib.Core.Path.{refl, sym}
+use mathlib.Core.Path.{refl}
 use Prim.Native.Nat.{_+_}
 use native.Mathlib.Omega.{arith}
-use native.Mathlib.Nat.{add-zero}
 use Rattle.meaning.specs.Words.{wordsOf}
 use Rattle.meaning.specs.Grants.{Terms}
+use borrow.Author.Needs.{needs}
 use Rattle.search.proofs.Sections.{sample-rows, no-address}
-use Rattle.search.proofs.Lowest.{Looked, all-left, look, passed}
+use Rattle.search.proofs.Lowest.{Looked, Begun, begun, look, passed}
 use Rattle.search.proofs.bad_in_sample.Statement.{statement}
 use Rattle.search.proofs.bad_in_sample.Tie as tie
 
-fine-requires : tie.Need-fine-requires
-fine-requires c κs = let p = c .before .pre in (p .0, ((_, sample-rows _ (p .1) .0), omega arith))
+bad-in-two-requires : tie.Need-bad-in-two-requires
+bad-in-two-requires c κs = let p = c .before .pre in let r = sample-rows _ (p .1) in (p .0, (r .0, r .1))
 
-cell-0 : (c : tie.After-fine) (g : Terms) → let a = c .before .before .args in Looked g (wordsOf (a .state .now)) (a .first) 3 0 (a .first) (c .fine .result)
-cell-0 c g = look 0 tt (sym (add-zero _)) (all-left g _ _ 3) (c .fine .ensures g 0 (sample-rows _ (c .before .before .pre .1) .0) no-address)
+-- what the answer for the first two tells
+first-two : (c : tie.After-bad-in-two) (g : Terms) → let a = c .before .before .args in Begun g (wordsOf (a .state .now)) (a .first) 3 2 (c .bad-in-two .result)
+first-two c g = begun 2 tt (c .bad-in-two .ensures g)
+
+add-if1 : tie.Need-add-if1
+add-if1 c = search needs
 
 returns : tie.Need-returns
-returns c g = cell-0 (c .before) g .bad (c .if1 .taken)
+returns c g = first-two (c .before) g .bad (c .if1 .taken)
 
-add-t10 : tie.Need-add-t10
-add-t10 c = omega arith
+add-t9 : tie.Need-add-t9
+add-t9 c = search needs
 
-fine-requires-2 : tie.Need-fine-requires-2
-fine-requires-2 c κs = let p = c .before .before .before .pre in (p .0, ((_, sample-rows _ (p .1) .1), omega arith))
+fine-requires : tie.Need-fine-requires
+fine-requires c κs = let p = c .before .before .before .pre in (p .0, ((_, sample-rows _ (p .1) .2), omega arith))
 
 add-result : tie.Need-add-result
-add-result c = omega arith
+add-result c = search needs
 
-cell-1 : (c : tie.After-fine2) (g : Terms) → let a = c .before .before .before .before .args in Looked g (wordsOf (a .state .now)) (a .first) 3 1 (a .first + 1) (c .fine2 .result)
-cell-1 c g = look 1 tt refl (cell-0 (c .before .before) g .past (c .before .if1 .left)) (c .fine2 .ensures g 0 (sample-rows _ (c .before .before .before .before .pre .1) .1) no-address)
+third : (c : tie.After-fine) (g : Terms) → let a = c .before .before .before .before .args in Looked g (wordsOf (a .state .now)) (a .first) 3 2 (a .first + 2) (c .fine .result)
+third c g = look 2 tt refl (first-two (c .before .before) g .past (c .before .if1 .left)) (c .fine .ensures g 0 (sample-rows _ (c .before .before .before .before .pre .1) .2) no-address)
 
 returns-2 : tie.Need-returns-2
-returns-2 c g = cell-1 (c .before) g .bad (c .if2 .taken)
-
-add-t10-2 : tie.Need-add-t10-2
-add-t10-2 c = omega arith
-
-fine-requires-3 : tie.Need-fine-requires-3
-fine-requires-3 c κs = let p = c .before .before .before .before .before .pre in (p .0, ((_, sample-rows _ (p .1) .2), omega arith))
+returns-2 c g = third (c .before) g .bad (c .if2 .taken)
 
 add-result-2 : tie.Need-add-result-2
-add-result-2 c = omega arith
-
-cell-2 : (c : tie.After-fine3) (g : Terms) → let a = c .before .before .before .before .before .before .args in Looked g (wordsOf (a .state .now)) (a .first) 3 2 (a .first + 2) (c .fine3 .result)
-cell-2 c g = look 2 tt refl (cell-1 (c .before .before) g .past (c .before .if2 .left)) (c .fine3 .ensures g 0 (sample-rows _ (c .before .before .before .before .before .before .pre .1) .2) no-address)
+add-result-2 c = search needs
 
 returns-3 : tie.Need-returns-3
-returns-3 c g = cell-2 (c .before) g .bad (c .if3 .taken)
-
-add-result-3 : tie.Need-add-result-3
-add-result-3 c = omega arith
-
-returns-4 : tie.Need-returns-4
-returns-4 c g = passed (cell-2 (c .before) g .past (c .if3 .left)) refl
+returns-3 c g = passed (third (c .before) g .past (c .if2 .left)) refl
 
 pub bad-in-sample-spec : {M : Type 1} → statement M
 bad-in-sample-spec =
     tie.close
     (tie.spec
-    fine-requires
+    bad-in-two-requires
+    add-if1
     returns
-    add-t10
-    fine-requires-2
+    add-t9
+    fine-requires
     add-result
     returns-2
-    add-t10-2
-    fine-requires-3
     add-result-2
-    returns-3
-    add-result-3
-    returns-4)
+    returns-3)

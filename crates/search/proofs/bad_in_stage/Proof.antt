@@ -1,55 +1,14 @@
--- Cell by cell, the search from there on is what is left of it.
+-- A stage is two cells without an address.
 -- Assumes nothing.
-use mathlib.Core.Path.{refl, sym}
-use Prim.Native.Nat.{_+_}
-use native.Mathlib.Omega.{arith}
-use native.Mathlib.Nat.{add-zero}
-use Rattle.meaning.specs.Words.{wordsOf}
-use Rattle.meaning.specs.Grants.{Terms}
-use Rattle.search.proofs.Sections.{stage-rows, no-address}
-use Rattle.search.proofs.Lowest.{Looked, all-left, look, passed}
+use Rattle.search.proofs.Sections.{stage-rows}
 use Rattle.search.proofs.bad_in_stage.Statement.{statement}
 use Rattle.search.proofs.bad_in_stage.Tie as tie
 
-fine-requires : tie.Need-fine-requires
-fine-requires c κs = let p = c .before .pre in (p .0, ((_, stage-rows _ (p .1) .0), omega arith))
-
-cell-0 : (c : tie.After-fine) (g : Terms) → let a = c .before .before .args in Looked g (wordsOf (a .state .now)) (a .first) 2 0 (a .first) (c .fine .result)
-cell-0 c g = look 0 tt (sym (add-zero _)) (all-left g _ _ 2) (c .fine .ensures g 0 (stage-rows _ (c .before .before .pre .1) .0) no-address)
+bad-in-two-requires : tie.Need-bad-in-two-requires
+bad-in-two-requires c κs = let p = c .before .pre in (p .0, stage-rows _ (p .1))
 
 returns : tie.Need-returns
-returns c g = cell-0 (c .before) g .bad (c .if1 .taken)
-
-add-t10 : tie.Need-add-t10
-add-t10 c = omega arith
-
-fine-requires-2 : tie.Need-fine-requires-2
-fine-requires-2 c κs = let p = c .before .before .before .pre in (p .0, ((_, stage-rows _ (p .1) .1), omega arith))
-
-add-result : tie.Need-add-result
-add-result c = omega arith
-
-cell-1 : (c : tie.After-fine2) (g : Terms) → let a = c .before .before .before .before .args in Looked g (wordsOf (a .state .now)) (a .first) 2 1 (a .first + 1) (c .fine2 .result)
-cell-1 c g = look 1 tt refl (cell-0 (c .before .before) g .past (c .before .if1 .left)) (c .fine2 .ensures g 0 (stage-rows _ (c .before .before .before .before .pre .1) .1) no-address)
-
-returns-2 : tie.Need-returns-2
-returns-2 c g = cell-1 (c .before) g .bad (c .if2 .taken)
-
-add-result-2 : tie.Need-add-result-2
-add-result-2 c = omega arith
-
-returns-3 : tie.Need-returns-3
-returns-3 c g = passed (cell-1 (c .before) g .past (c .if2 .left)) refl
+returns c = c .bad-in-two .ensures
 
 pub bad-in-stage-spec : {M : Type 1} → statement M
-bad-in-stage-spec =
-    tie.close
-    (tie.spec
-    fine-requires
-    returns
-    add-t10
-    fine-requires-2
-    add-result
-    returns-2
-    add-result-2
-    returns-3)
+bad-in-stage-spec = tie.close (tie.spec bad-in-two-requires returns)
