@@ -1,4 +1,4 @@
-// Runs the reader and the writer beside second ones that share nothing with them, written from document 01 with a table
+// Runs the reader and the writer beside second ones that share nothing with them, written from the rules with a table
 // of their own: on made-up batches and grants, whole or damaged in one place, and on the states that accepted batches
 // leave. No answer is stated here: the two have to agree, in every byte of every buffer too. It prints how many calls
 // each family made and how many of all differed, how often each reason was told, and how many of the made-up values for

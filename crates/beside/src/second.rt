@@ -1,4 +1,4 @@
-// The second reader and writer, written from document 01 a second time: what each word is, is noted first, by the
+// The second reader and writer, written from the rules a second time: what each word is, is noted first, by the
 // headers' counts alone, and each word is judged by itself after that. Nothing is shared with the first ones: no table,
 // no definition, no function.
 use super::calls::answer;

@@ -1,4 +1,4 @@
-// The 101 registers once more, typed from document 01 for the second ones alone, in cell order.
+// The 101 registers once more, typed from the rules for the second ones alone, in cell order.
 //
 // A row has, from the left: the rule of the values, the role of the address, the name, and the bits
 // that must be clear. A 3D register's name is type, sub-type and sub-address, a byte each; a video

@@ -1,4 +1,4 @@
-// The second lister, written from document 01 a second time, with a table of its own. It shares nothing with the first:
+// The second lister, written from the rules a second time, with a table of its own. It shares nothing with the first:
 // how long the text is, is told from the marks alone, and every line is a pattern that takes the digits of one number.
 use super::calls::answer;
 use super::desk::Desk;

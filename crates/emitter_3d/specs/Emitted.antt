@@ -1,7 +1,7 @@
 -- The words of a state as they are emitted: of a cell, of rows that follow one another, of a packet, of groups of equal size.
 -- proofs/Emitted ties them to the words of the table's sections.
 -- Assumes nothing.
-use mathlib.Core.List.{List, [], _∷_, _++_}
+use mathlib.Core.List.{List, [], _++_}
 use Prim.Native.Nat.{ℕ, zero, suc, _+_, _*_, _/_, _≤_, _<_, _^_}
 use lib.ListN.{length}
 use Rattle.laws.specs.Lists.{join}

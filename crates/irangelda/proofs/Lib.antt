@@ -1,2 +1,3 @@
-pub mod Places
+pub mod AsksNothing
 pub mod Buffers
+pub mod Places

@@ -63,7 +63,7 @@ pub extern "C" fn irangelda_read(batch: &[u8], grants: &[u8], state: &mut [u8]) 
     number(reader::read(batch, grants, state))
 }
 
-// Writes the batch that reaches a state from the empty state: 13, 1, 2, 12 and 11 as document 01 has them, else 0 and the words written.
+// Writes the batch that reaches a state from the empty state: 13, 1, 2, 12 and 11 in the order of the rules, else 0 and the words written.
 #[no_mangle]
 pub extern "C" fn irangelda_write(state: &[u8], grants: &[u8], out: &mut [u8]) -> u64
     ensures number { λ r. ⌜ r ≡ numberOf (exported.exportedWrite (now (state .entry)) (now (grants .entry)) (now (out .entry))) ⌝ }

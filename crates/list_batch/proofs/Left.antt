@@ -18,13 +18,14 @@ use Rattle.meaning.specs.State.{markAt, wellFormed, empty}
 use Rattle.meaning.specs.Answers.{numberOf}
 use Rattle.meaning.specs.Text.{ascii}
 use Rattle.meaning.specs.Reader.{readLeaves}
-use Rattle.meaning.specs.Lister.{mostListed, listing}
+use Rattle.meaning.specs.Lister.{mostListed, listing, listAnswer, listLeaves}
 use Rattle.meaning.specs.Exported.{mostBytes, bufferFine, wordBufferFine, exportedRead, exportedReadLeaves, exportedList, exportedListLeaves}
 use Rattle.meaning.proofs.Bytes.{words-bytes, length-words, length-bytes, number-tells, settle-done}
 use Rattle.meaning.proofs.States.{formed-iff, empty-well-formed}
-use Rattle.meaning.proofs.Outputs.{listing-at-most}
+use Rattle.meaning.specs.Reasons.{ListerGives}
+use Rattle.meaning.proofs.Round.{leaves-formed}
+use Rattle.meaning.proofs.Outputs.{list-answer, listing-at-most}
 use Rattle.meaning.proofs.Exported.{read-call-range, list-call, list-call-leaves}
-use Rattle.meaning.proofs.Promises.{stays-well-formed, listing-is-exact}
 use Rattle.list_batch.specs.Put.{Put}
 use Rattle.list_batch.specs.Printed.{decimal5, refusalLine, k1Grant, emptyBytes, answered, stateLeft, printed}
 use Rattle.list_batch.proofs.Puts.{five-digits}
@@ -66,7 +67,7 @@ module _ (batch : List ℕ) (accepted : answered batch .reason ≡ 0) where
 
   left-formed : T (wellFormed left)
   unfolding left emptyBytes empty
-  left-formed = stays-well-formed (wordsOf batch) (wordsOf k1Grant) (wordsOf emptyBytes) empty-well-formed
+  left-formed = formed-iff _ .1 (leaves-formed (wordsOf batch) (wordsOf k1Grant) (wordsOf emptyBytes) (formed-iff _ .0 empty-well-formed))
 
   state-formed : T (wellFormed (wordsOf bytes))
   state-formed = rw bytes-left (formed-again left left-formed)
@@ -89,13 +90,14 @@ module _ (batch : List ℕ) (accepted : answered batch .reason ≡ 0) where
   -- what the lister answers and leaves is what is printed
   pub listed : (out new : List ℕ) (n : ℕ) → length out ≡ mostListed → n ≡ numberOf (exportedList bytes out) → new ≡ exportedListLeaves bytes out
       → (n / 256 ≡ length (printed batch)) × (new ≡ over (printed batch) out)
+  unfolding listLeaves
   listed out new n room e l =
       let st = wordsOf bytes in
       let fits : length (listing st) ≤ length out = omega (arith, listing-at-most st) in
-      let done = listing-is-exact st out state-formed fits in
-      let number : n ≡ length (listing st) * 256 + 0 = e ∙ ap numberOf (list-call bytes out (fine out room) ∙ done .answered) in (
+      let done = list-answer st (length out) (ListerGives.done state-formed fits) in
+      let number : n ≡ length (listing st) * 256 + 0 = e ∙ ap numberOf (list-call bytes out (fine out room) ∙ done) in (
         rw printed-listing (omega arith),
-        rw printed-listing (l ∙ list-call-leaves bytes out (fine out room) ∙ done .left),
+        rw printed-listing (l ∙ list-call-leaves bytes out (fine out room) ∙ settle-done (listAnswer st (length out)) _ out (rw done)),
       )
 
 -- ---- a refusal

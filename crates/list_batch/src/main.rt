@@ -12,7 +12,7 @@ use meaning::MOST_BYTES;
 use meaning::MOST_LISTED;
 use meaning::STATE_WORDS;
 
-// The grant of document 01's case K1: role 1, start 00100000h, length 00080000h, reach 00080000h.
+// The grant of K1: K1 "role 1, start 00100000h, length 00080000h, reach 00080000h".
 const K1_GRANT: [u8; 16] = *b"\
     \x01\x00\x00\x00\
     \x00\x00\x10\x00\

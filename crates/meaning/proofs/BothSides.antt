@@ -1,5 +1,5 @@
--- What document 01 gives as examples, and what its likely slips would change, each computed: K1 to K12, the slips, the writer's and
--- the lister's words and bytes, the format bytes.
+-- The cases and examples of docs/RULES.md, and what likely slips would change, each computed: K1 to K12, the slips, the writer's and the
+-- lister's words and bytes, the format bytes.
 -- Assumes nothing.
 use mathlib.Core.Path.{_≡_, refl}
 use mathlib.Core.Logic.{_↔_}
@@ -27,7 +27,7 @@ use Rattle.meaning.specs.Text.{ascii}
 use Rattle.meaning.specs.Lister.{digit, hex, decimal, linesOf, linesAmong, cellLines, listing}
 use Rattle.meaning.specs.Cases.{holding, cases, slips, Holds, keeping, breaking, full, formatBytes}
 
--- "K1 to K12 are one table, with a single proved statement about the definitions over it"
+-- X8 "K1 to K12 are one table, and one statement about the definitions is proved of all of it."
 pub cases-hold : All Holds cases
 unfolding cases holding count offset paraAdr paraOS paraType paraSubType subAddress data24 formats bytesAmong bytesPerPixel alphaConstants location formatByte levels filters mapping alphaSelect memoryLocation targetGroup stage sample sections overlay scaler find findAmong find3D findVideo findOffset registerAmong registerIn registerAt grantFine grantsFine covers granted allowedTypes typeAllowed allowed cellFormed wellFormed empty apply applyAll kindOf after nextKind nextLeft goes carries writeAt writesFrom writesOf unless runIn headerReason valueReason wordReason judge run batchAnswer readAnswer readLeaves every some from oneOf
 cases-hold = (
@@ -49,31 +49,31 @@ pub written-example : written (set (set (holding 10 1) 84 0x07FF07FF) (cells + 8
 unfolding holding empty parameters packetsVideo packetsAmong wordsFor written targetGroup stage sample sections overlay scaler from
 written-example = refl
 
--- "a 3D value of 2^24 or more"
+-- Y12 "a 3D value not below 2^24"
 pub unwritable-example : writeAnswer (holding 0 0x1000000) [] mostWritten ≡ answer 12 0
 unfolding holding empty cellFormed wellFormed grantsFine writable lowestBad writeAnswer valueReason unless alphaConstants registerAt registerIn registerAmong targetGroup stage sample sections overlay scaler every from
 unwritable-example = refl
 
--- "words are 32 bits little-endian"
+-- C2 "four bytes are a word of 32 bits, the lowest byte first"
 pub bytes-example : bytesOf (0x04030201 ∷ []) ≡ 1 ∷ 2 ∷ 3 ∷ 4 ∷ []
 bytes-example = refl
 
--- "Whole example, case K1"
+-- L8 "The state that K1 leaves has this listing, and nothing more"
 pub listing-example : listing (holding 1 0x001000) ≡ ascii "cells=1\nreg=01.00.50 val=00001000\n"
 unfolding holding empty digit hex decimal linesOf linesAmong cellLines listing targetGroup stage sample sections overlay scaler from
 listing-example = refl
 
--- "A video line reads `reg=23f0 val=` and eight digits", in lower case
+-- L5 "like `reg=23f0 val=00001000`: an offset of four digits and a value of eight", L3 "in lower case"
 pub video-line-example : listing (holding 90 0x0009ABC0) ≡ ascii "cells=1\nreg=23f0 val=0009abc0\n"
 unfolding holding empty digit hex decimal linesOf linesAmong cellLines listing targetGroup stage sample sections overlay scaler from
 video-line-example = refl
 
--- "at most 184 words" and "at most 2,568 bytes": a state with every cell marked needs as many
+-- W4 "No state needs more than 184 words.", L6 "No listing has more than 2,568 bytes.": a state with every cell marked needs as many
 pub full-is-the-most : (length (written full) ≡ 184) × (length (listing full) ≡ 2568) × (take 10 (listing full) ≡ ascii "cells=101\n")
 unfolding full digit hex decimal linesOf linesAmong cellLines listing parameters packetsVideo packetsAmong wordsFor written targetGroup stage sample sections overlay scaler from
 full-is-the-most = (refl, refl, refl)
 
--- the rules of the grant list, from both sides
+-- the rules of the grant list, G2 to G4, from both sides
 pub grant-rules-hold : T (every grantsFine keeping) × T (every (λ l. not (grantsFine l)) breaking)
 unfolding keeping breaking grantFine grantsFine every
 grant-rules-hold = (tt, tt)
@@ -87,12 +87,12 @@ tested : T (every right (from 0 256))
 unfolding right formatBytes formats bytesAmong bytesPerPixel formatTable every some oneOf from
 tested = tt
 
--- "That is 39"
+-- F9 "39 are"
 pub formats-39 : length formatBytes ≡ 39
 unfolding formatBytes formats
 formats-39 = refl
 
--- "one computed test shows nonzero exactly for the 39 permitted bytes"
+-- H4 "one computed test shows that an entry is nonzero exactly if the byte is one of the 39"
 pub formats-exactly : (b : ℕ) → b < 256 → (0 < getD formatTable b 0) ↔ T (oneOf b formatBytes)
 unfolding right
 formats-exactly b l =

@@ -1,6 +1,6 @@
 -- Each reason of the reader is given exactly then: the word's reason, and the first word that has one.
 -- Assumes nothing.
-use mathlib.Core.Path.{_≡_, refl, ap, _∙_, subst}
+use mathlib.Core.Path.{_≡_, refl, sym, ap, _∙_, subst}
 use mathlib.Core.Logic.{_↔_, _≢_, _⊎_, inl, inr}
 use mathlib.Core.Bool.{Bool, true, false, _&&_, cond}
 use mathlib.Core.List.{List, [], _∷_}
@@ -32,8 +32,9 @@ use Rattle.meaning.specs.Reader.{unless, runIn, reason3D, reasonVideo, h
 use Rattle.meaning.specs.Reasons.{VideoRun, Given, bad-offset, bad-count, bad-run, bad-setting, no-register, bit-set, bad-value, not-granted, NoneBefore, ReaderGives}
 use Rattle.meaning.specs.Reasons.ReaderGives.{bad-state, bad-grants, at-word, ends-inside, accepted}
 use Rattle.meaning.proofs.Packets.{never-both}
-use Rattle.meaning.proofs.Reading.{batch-permitted}
+use Rattle.meaning.proofs.Reading.{batch-permitted, batch-length}
 use Rattle.meaning.proofs.Places.{Good, good-next}
+use Rattle.meaning.proofs.Bytes.{exactly}
 
 -- ---- tests
 
@@ -315,3 +316,16 @@ module _ (batch grants st : List ℕ) where
   accepted-cut e =
       let w = accepted-parts read-told e in
       batch-permitted g batch .0 (rw (read-batch (w .0) (w .1)) at e)
+
+  -- it is accepted, with its length for a place, exactly if it can be cut
+  pub accepted-iff : T (wellFormed st) → T (grantsFine grants) → (readAnswer batch grants st ≡ answer 0 (length batch)) ↔ Cut g batch
+  accepted-iff s l =
+      let e = read-batch s l in
+      let all = batch-permitted g batch in (
+        λ a. all .0 (ap (λ (x : Answer). x .reason) (sym e ∙ a)),
+        λ c. e ∙ rw (all .1 c, batch-length g batch (all .1 c)),
+      )
+
+  -- the table of reasons and the answer agree
+  pub read-exactly : (r p : ℕ) → (readAnswer batch grants st ≡ answer r p) ↔ ReaderGives batch grants st r p
+  read-exactly = exactly (readAnswer batch grants st) (ReaderGives batch grants st) read-told (λ r p. read-answer)

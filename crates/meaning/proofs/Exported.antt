@@ -1,38 +1,33 @@
 -- What the calls on bytes leave is, as words, what the calls on words leave.
 -- Assumes nothing.
 use mathlib.Core.Path.{_≡_, refl, ap, ap₂, _∙_}
-use mathlib.Core.Bool.{Bool, true, false, _&&_, cond}
+use mathlib.Core.Logic.{_↔_}
+use mathlib.Core.Bool.{Bool, true, false, _&&_}
 use mathlib.Core.List.{List, [], _∷_, _++_}
-use Prim.Native.Nat.{ℕ, zero, suc, _+_, _*_, _/_, _<_, _^_}
+use Prim.Native.Nat.{ℕ, zero, suc, _+_, _*_, _/_, _<_}
 use native.Mathlib.Omega.{arith}
-use borrow.Author.Tests.{eqb-true}
-use lib.Dec.{T, eqb}
+use lib.Dec.{T}
 use lib.ListN.{length, drop, set}
 use Rattle.laws.specs.Lists.{All, every, join, over}
 use Rattle.meaning.specs.declared.Answer.{Answer}
-use Rattle.meaning.specs.Words.{Word, wordsOf, bytesOf}
+use Rattle.meaning.specs.Words.{Byte, Word, wordsOf, bytesOf}
 use Rattle.meaning.specs.Registers.{cells}
-use Rattle.meaning.specs.Grants.{Terms, termsOf}
+use Rattle.meaning.specs.Grants.{Terms}
 use Rattle.meaning.specs.Batch.{Packet, Cut}
 use Rattle.meaning.specs.State.{Write, apply, applyAll, allWrites}
 use Rattle.meaning.specs.Positions.{writesOf}
 use Rattle.meaning.specs.Answers.{provided}
-use Rattle.meaning.specs.Reader.{readAnswer, readLeaves}
-use Rattle.meaning.specs.Writer.{written, writeAnswer, writeLeaves}
+use Rattle.meaning.specs.Reader.{readAnswer}
+use Rattle.meaning.specs.Writer.{writeAnswer}
 use Rattle.meaning.specs.Lister.{listAnswer, listLeaves}
-use Rattle.meaning.specs.Exported.{bufferFine, wordBufferFine, exportedRead, exportedReadLeaves, exportedWrite, exportedWriteLeaves, exportedList, exportedListLeaves}
-use Rattle.meaning.specs.Reasons.{WriterGives}
+use Rattle.meaning.specs.Exported.{bufferFine, wordBufferFine, exportedRead, exportedWrite, exportedList, exportedListLeaves}
 use Rattle.meaning.proofs.EachWrite.{each-write}
 use Rattle.meaning.proofs.Writes.{writes-of-cut}
-use Rattle.meaning.proofs.Writing.{written-words}
-use Rattle.meaning.proofs.Exactly.{accepted-cut, read-told, read-range}
+use Rattle.meaning.proofs.Exactly.{read-told, read-range}
 use Rattle.meaning.proofs.Outputs.{write-told, write-range, list-told, list-range}
-use Rattle.meaning.proofs.Bytes.{words-bytes, length-words, length-bytes, provided-then}
+use Rattle.meaning.proofs.Bytes.{words-bytes, length-words, length-bytes, provided-then, provided-first}
 
 -- ---- words that are words of 32 bits
-
-abbrev pub Byte : ℕ → Type 0
-Byte b = b < 2 ^ 8
 
 pub words-small : (bs : List ℕ) → All Byte bs → All Word (wordsOf bs)
 words-small [] x = tt
@@ -116,43 +111,27 @@ pub list-call-range : (a c : List ℕ) → exportedList a c .reason < 256
 unfolding exportedList
 list-call-range a c = provided-range (wordBufferFine a && bufferFine c) _ (list-below-13 (wordsOf a) (length c))
 
--- a buffer that is settled alike on bytes and on words
-settled : (a : Answer) (new old new-bytes old-bytes : List ℕ) (b : Bool) → eqb (a .reason) 0 ≡ b → (a .reason ≡ 0 → wordsOf new-bytes ≡ new) → wordsOf old-bytes ≡ old
-    → wordsOf (cond b new-bytes old-bytes) ≡ cond b new old
-settled a new old new-bytes old-bytes true e n o = n (eqb-true (a .reason) 0 e)
-settled a new old new-bytes old-bytes false e n o = o
+-- 13 is given exactly of buffers that are not fine
+pub read-13-exactly : (a b c : List ℕ) → (exportedRead a b c .reason ≡ 13) ↔ (¬ T (every wordBufferFine (a ∷ b ∷ c ∷ [])))
+unfolding exportedRead
+read-13-exactly a b c = provided-first (every wordBufferFine (a ∷ b ∷ c ∷ [])) 13 _ (read-below-13 (wordsOf a) (wordsOf b) (wordsOf c))
+
+pub write-13-exactly : (a b c : List ℕ) → (exportedWrite a b c .reason ≡ 13) ↔ (¬ T (every wordBufferFine (a ∷ b ∷ c ∷ [])))
+unfolding exportedWrite
+write-13-exactly a b c = provided-first (every wordBufferFine (a ∷ b ∷ c ∷ [])) 13 _ (write-below-13 (wordsOf a) (wordsOf b) (length c / 4))
+
+pub list-13-exactly : (a c : List ℕ) → (exportedList a c .reason ≡ 13) ↔ (¬ T (wordBufferFine a && bufferFine c))
+unfolding exportedList
+list-13-exactly a c = provided-first (wordBufferFine a && bufferFine c) 13 _ (list-below-13 (wordsOf a) (length c))
 
 module _ (a b c : List ℕ) (fine : T (every wordBufferFine (a ∷ b ∷ c ∷ []))) where
   pub read-call : exportedRead a b c ≡ readAnswer (wordsOf a) (wordsOf b) (wordsOf c)
   unfolding exportedRead
   read-call = provided-then (every wordBufferFine (a ∷ b ∷ c ∷ [])) 13 _ fine
 
-  pub read-call-leaves : All Byte a → All Byte c → wordsOf (exportedReadLeaves a b c) ≡ readLeaves (wordsOf a) (wordsOf b) (wordsOf c)
-  unfolding exportedReadLeaves readLeaves
-  read-call-leaves x z =
-      let now = readAnswer (wordsOf a) (wordsOf b) (wordsOf c) in
-      let done : now .reason ≡ 0 → wordsOf (bytesOf (readLeaves (wordsOf a) (wordsOf b) (wordsOf c))) ≡ applyAll (wordsOf c) (writesOf (wordsOf a)) =
-      λ e. rw e (words-bytes _ (left-small (wordsOf a) (wordsOf c) (termsOf (wordsOf b)) (accepted-cut (wordsOf a) (wordsOf b) (wordsOf c) e) (words-small a x) (words-small c z))) in
-      rw read-call (settled now _ (wordsOf c) _ c (eqb (now .reason) 0) refl done refl)
-
   pub write-call : exportedWrite a b c ≡ writeAnswer (wordsOf a) (wordsOf b) (length (wordsOf c))
   unfolding exportedWrite
   write-call = rw (length-words c) (provided-then (every wordBufferFine (a ∷ b ∷ c ∷ [])) 13 _ fine)
-
-  pub write-call-leaves : wordsOf (exportedWriteLeaves a b c) ≡ writeLeaves (wordsOf a) (wordsOf b) (wordsOf c)
-  unfolding exportedWriteLeaves writeLeaves
-  write-call-leaves =
-      let now = writeAnswer (wordsOf a) (wordsOf b) (length (wordsOf c)) in
-      rw write-call
-      (settled now _ (wordsOf c) _ c (eqb (now .reason) 0) refl
-      (λ e. words-over (written (wordsOf a)) c (words-if (write-told (wordsOf a) (wordsOf b) (length (wordsOf c))) e)) refl)
-    where
-      words-if : {st grants : List ℕ} {room r p : ℕ} → WriterGives st grants room r p → r ≡ 0 → All Word (written st)
-      words-if (WriterGives.bad-state s) e = absurd (omega arith)
-      words-if (WriterGives.bad-grants s f) e = absurd (omega arith)
-      words-if (WriterGives.not-writable s f l bad before) e = absurd (omega arith)
-      words-if (WriterGives.no-room s f ok l) e = absurd (omega arith)
-      words-if {st} {grants} (WriterGives.done s f ok l) e = written-words (termsOf grants) st ok
 
 module _ (a c : List ℕ) (fine : T (wordBufferFine a && bufferFine c)) where
   pub list-call : exportedList a c ≡ listAnswer (wordsOf a) (length c)

@@ -25,7 +25,7 @@ admits-iff x role a = (
   λ m. yes-and (eqb (x .role) role) _ (yes-eqb (m .role-is)) (yes-and (leb (x .start) a) _ (yes-leb (m .from)) (yes-leb (m .to))),
 )
 
--- "An address a is granted to a role exactly if some grant of that role has start ≤ a and a + reach ≤ start + length"
+-- G5 "A role is granted an address a if some grant of that role has start ≤ a and a + reach ≤ start + length, and only then."
 pub granted-iff : (gs : List Grant) (role a : ℕ) → T (granted gs role a) ↔ Inside gs role a
 unfolding granted
 granted-iff gs role a =
@@ -36,7 +36,7 @@ granted-iff gs role a =
 
 -- ---- the writes of permitted packets
 
-held-inside : (g : Terms) (h : Content) → T (reaches g h) → OfAddress (Inside (g .grants)) h
+pub held-inside : (g : Terms) (h : Content) → T (reaches g h) → OfAddress (Inside (g .grants)) h
 held-inside g nothing t = tt
 held-inside g (address role a) t = granted-iff (g .grants) role a .0 t
 
@@ -53,7 +53,7 @@ harmless : (ours theirs : List Grant) → Apart ours theirs → (role a : ℕ) �
 harmless ours theirs apart role a x y mine admits other b t =
     apart x y mine other b (omega (arith, admits .from, t), omega (arith, admits .to, t))
 
-safe-held : (ours theirs : List Grant) → Apart ours theirs → (h : Content) → OfAddress (Inside ours) h → OfAddress (Safe ours theirs) h
+pub safe-held : (ours theirs : List Grant) → Apart ours theirs → (h : Content) → OfAddress (Inside ours) h → OfAddress (Safe ours theirs) h
 safe-held ours theirs apart nothing i = tt
 safe-held ours theirs apart (address role a) i = (i, harmless ours theirs apart role a)
 

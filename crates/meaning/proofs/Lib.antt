@@ -18,4 +18,3 @@ pub mod Fitter
 pub mod Outputs
 pub mod Bytes
 pub mod Exported
-pub mod Promises

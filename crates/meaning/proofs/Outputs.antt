@@ -2,13 +2,14 @@
 -- Assumes nothing.
 use mathlib.Core.Path.{_≡_, refl, sym, ap, ap₂, _∙_}
 use mathlib.Core.Bool.{Bool, true, false, cond}
+use mathlib.Core.Logic.{_↔_}
 use mathlib.Core.List.{List, [], _∷_, _++_}
 use Prim.Native.Nat.{ℕ, _+_, _*_, _≤_, _<_}
 use native.Mathlib.Omega.{arith}
 use native.Mathlib.Nat.{mul-add}
 use native.Mathlib.Decide.{ℕ-discrete, decLt}
 use borrow.Author.Tests.{le-leb, lt-leb, leb-true, leb-false}
-use lib.Dec.{leb, ltb}
+use lib.Dec.{T, leb, ltb}
 use lib.ListN.{length, length-append}
 use Rattle.laws.specs.Lists.{join, from}
 use Rattle.laws.proofs.Lists.{length-join-append}
@@ -20,15 +21,19 @@ use Rattle.meaning.specs.declared.Found.the-variants.{At, Missing}
 use Rattle.meaning.specs.declared.Answer.{Answer}
 use Rattle.meaning.specs.Registers.{cells, cell, Row, Section, of3D, ofVideo, targetGroup, stage, sample, overlay, scaler, sections}
 use Rattle.meaning.specs.Grants.{Terms, termsOf, grantsFine}
-use Rattle.meaning.specs.State.{valueAt, marked, one, countIn, markedCells, wellFormed}
+use Rattle.meaning.specs.State.{valueAt, marked, one, countIn, markedCells, wellFormed, empty}
 use Rattle.meaning.specs.Answers.{answer, provided}
+use Rattle.meaning.specs.Reader.{readAnswer, readLeaves}
 use Rattle.meaning.specs.Writer.{written, countRows, lowestBad, exceptAt, writeAnswer}
 use Rattle.meaning.specs.Text.{ascii}
 use Rattle.meaning.specs.Lister.{hex, decimal, line3D, lineVideo, linesOf, linesIn, linesAmong, cellLines, mostListed, listing, listAnswer}
 use Rattle.meaning.specs.Reasons.{CellFine, WriterGives, ListerGives}
 use Rattle.meaning.proofs.Table.{SectionAt, rowsIn, Sections, rowsAmong, table, all-rows}
 use Rattle.meaning.proofs.Writing.{AllFine, so-length, so-join, rows-few, count-add, count-3D, count-video}
-use Rattle.meaning.proofs.Round.{Lowest, lowest-told}
+use Rattle.meaning.proofs.Bytes.{exactly}
+use Rattle.meaning.proofs.States.{formed-iff, Sound, empty-well-formed}
+use Rattle.meaning.proofs.Exactly.{accepted-iff}
+use Rattle.meaning.proofs.Round.{Lowest, lowest-told, sound-takes, left-by}
 
 -- ---- the writer
 
@@ -85,6 +90,29 @@ module _ (st grants : List ℕ) (room : ℕ) where
   write-range (WriterGives.no-room s h fine l) = omega arith
   write-range (WriterGives.done s h fine l) = omega arith
 
+  -- the table of reasons and the answer agree
+  pub write-exactly : (r p : ℕ) → (writeAnswer st grants room ≡ answer r p) ↔ WriterGives st grants room r p
+  write-exactly = exactly (writeAnswer st grants room) (WriterGives st grants room) write-told (λ r p. write-answer)
+
+  -- what 0 tells: the grants are fine, the cells of the state hold what they may, and the place is the number of words
+  pub wrote : writeAnswer st grants room .reason ≡ 0 → T (grantsFine grants) × Sound g st × (writeAnswer st grants room .place ≡ need)
+  wrote e = tells write-told e
+    where
+      tells : {r p : ℕ} → WriterGives st grants room r p → r ≡ 0 → T (grantsFine grants) × Sound g st × (p ≡ need)
+      tells (WriterGives.bad-state s) z = absurd (omega arith)
+      tells (WriterGives.bad-grants s f) z = absurd (omega arith)
+      tells (WriterGives.not-writable s f low bad before) z = absurd (omega arith)
+      tells (WriterGives.no-room s f fine less) z = absurd (omega arith)
+      tells (WriterGives.done s f fine enough) z = (f, record { formed = formed-iff st .0 s; fine = fine }, refl)
+
+-- and back: read from the empty state under the same grants, the written words are accepted and leave the state
+pub written-back : (st grants : List ℕ) → T (grantsFine grants) → Sound (termsOf grants) st
+    → (readAnswer (written st) grants empty ≡ answer 0 (length (written st))) × (readLeaves (written st) grants empty ≡ st)
+written-back st grants l s =
+    let takes = sound-takes (termsOf grants) st s in
+    let read = accepted-iff (written st) grants empty empty-well-formed l .1 (takes .cut) in
+    (read, left-by (written st) grants empty (ap (λ (x : Answer). x .reason) read) (takes .cut) ∙ takes .leaves)
+
 -- ---- the lister
 
 module _ (st : List ℕ) (room : ℕ) where
@@ -109,7 +137,10 @@ module _ (st : List ℕ) (room : ℕ) where
   list-range (ListerGives.no-room s l) = omega arith
   list-range (ListerGives.done s l) = omega arith
 
--- ---- "at most 2,568 bytes"
+  pub list-exactly : (r p : ℕ) → (listAnswer st room ≡ answer r p) ↔ ListerGives st room r p
+  list-exactly = exactly (listAnswer st room) (ListerGives st room) list-told (λ r p. list-answer)
+
+-- ---- L6 "No listing has more than 2,568 bytes."
 
 length-3D : (t u : ℕ) (a : SubAddress) (v : ℕ) → length (line3D t u a v) ≡ 26
 unfolding hex

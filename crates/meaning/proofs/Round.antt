@@ -21,12 +21,13 @@ use Rattle.meaning.specs.Registers.{cells, cell, registerAt}
 use Rattle.meaning.specs.declared.Answer.{Answer}
 use Rattle.meaning.specs.Grants.{Terms, termsOf}
 use Rattle.meaning.specs.Batch.{Packet, Cut}
-use Rattle.meaning.specs.State.{valueAt, markAt, empty, Write, applyAll, allWrites, Takes, Reached}
+use Rattle.meaning.specs.State.{valueAt, markAt, wellFormed, empty, Write, applyAll, allWrites, Takes, Reached}
 use Rattle.meaning.specs.Positions.{writesOf}
 use Rattle.meaning.specs.Reader.{valueReason, readAnswer, readLeaves}
 use Rattle.meaning.specs.Writer.{wordsFor, packetsOf, written, writable, lowestBad}
 use Rattle.meaning.specs.Reasons.{CellFine}
 use Rattle.meaning.proofs.Verdicts.{fits-fine}
+use Rattle.meaning.proofs.Bytes.{settle-done}
 use Rattle.meaning.proofs.EachWrite.{each-write}
 use Rattle.meaning.proofs.Writes.{writes-of-cut}
 use Rattle.meaning.proofs.Exactly.{read-told, accepted-parts, accepted-cut}
@@ -35,7 +36,8 @@ use Rattle.meaning.proofs.States.{Formed, formed-iff, Sound, FineWrite,
 
 -- ---- there and back
 
-packets-fine : (g : Terms) (ps : List (List ℕ)) → All (Packet g) ps → All Word (join ps) → All (FineWrite g) (allWrites ps)
+-- permitted packets write what cells may hold
+pub packets-fine : (g : Terms) (ps : List (List ℕ)) → All (Packet g) ps → All Word (join ps) → All (FineWrite g) (allWrites ps)
 packets-fine g =
     each-write g (FineWrite g) Word
     (λ c v l n s. record { low = l .0; fine = record { narrow = rw (l .1) n; fits = s } })
@@ -57,7 +59,20 @@ sound-takes g st s =
       leaves = ap (applyAll empty) (written-writes g st (s .fine)) ∙ rebuilt st (s .formed);
     }
 
--- ---- what the reader leaves of a well-formed state
+-- the states that some batch reaches from empty: well-formed, and each marked cell holds what it may
+pub reached-iff : (g : Terms) (st : List ℕ) → Reached g st ↔ (T (wellFormed st) × ((c : ℕ) → c < cells → CellFine g st (cell c)))
+reached-iff g st = (
+  λ r. let s = reached-sound g st r in (formed-iff st .1 (s .formed), s .fine),
+  λ p. record { batch = written st; takes = sound-takes g st (record { formed = formed-iff st .0 (p .0); fine = p .1 }) },
+)
+
+-- ---- what the reader leaves
+
+-- of an accepted batch, by any cut of it
+pub left-by : (batch grants st : List ℕ) → readAnswer batch grants st .reason ≡ 0 → (c : Cut (termsOf grants) batch)
+    → readLeaves batch grants st ≡ applyAll st (allWrites (c .packets))
+unfolding readLeaves
+left-by batch grants st e c = settle-done (readAnswer batch grants st) _ st e ∙ ap (applyAll st) (writes-of-cut (termsOf grants) batch c)
 
 pub packets-low : (g : Terms) (ps : List (List ℕ)) → All (Packet g) ps → All (λ w. w .cell .0 < cells) (allWrites ps)
 packets-low g ps a = each-write g (λ (w : Write). w .cell .0 < cells) (λ (w : ℕ). Unit {0}) (λ c v l n s. l .0) (λ c v l n s. l .0) ps a (all-unit (join ps))

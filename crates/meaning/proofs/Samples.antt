@@ -18,7 +18,7 @@ use Rattle.meaning.specs.declared.Found.{Found}
 use Rattle.meaning.specs.declared.Found.the-variants.{At, Missing}
 use Rattle.meaning.specs.declared.Kind.the-variants.{Setting, Parameter, Video}
 use Rattle.meaning.specs.Words.{Word, bits, paraAdr, paraOS, paraType, paraSubType, subAddress, data24}
-use Rattle.meaning.specs.Registers.{any, scaled, noAddress, alphaSelect, memoryLocation, alphaConstants, levels, Register, Row, Group, Section, of3D, ofVideo, stageSection, sampleSection, targetGroup, stage, sample, overlay, scaler, sections3D, sectionsVideo, sections, find, findAmong, find3D, findVideo, isFound, registerAmong, registerIn, registerAt}
+use Rattle.meaning.specs.Registers.{any, scaled, noAddress, alphaSelect, memoryLocation, alphaConstants, levels, Register, Row, Section, of3D, ofVideo, targetGroup, stage, sample, overlay, scaler, sections, find, findAmong, find3D, findVideo, isFound, registerAmong, registerIn, registerAt}
 use Rattle.meaning.specs.Grants.{Terms, granted}
 use Rattle.meaning.specs.Batch.{Fits, SubTypes, allowedTypes, typeAllowed, allowed, Holdable}
 use Rattle.meaning.specs.Reader.{unless, valueReason, foundReason, wordReason}
@@ -98,20 +98,17 @@ masked a m e l z =
 held : (a : ℕ) → a % 16 ≡ 0 → a < 2 ^ 29 → bits 28 4 a * 16 ≡ a
 held a m l = omega arith
 
-an-address : (g : Terms) (role m : ℕ) → T (eqb (bits 28 4 m) 0) → Holdable g role → Holds g (record { width = 32; clear = m; values = memoryLocation; holds = scaled role })
+-- an address that is granted to its role fits such a register
+pub address-fits : (g : Terms) (role m a : ℕ) → T (eqb (bits 28 4 m) 0) → a % 16 ≡ 0 → a < 2 ^ 29 → T (granted (g .grants) role a)
+    → Fits g (record { width = 32; clear = m; values = memoryLocation; holds = scaled role }) a
 unfolding memoryLocation
+address-fits g role m a z e l t =
+    let low : bits 1 0 a ≡ 0 = omega arith in
+    record { clear = masked a m e l (eqb-yes z); value = yes-eqb low; granted = rw (held a e l) t }
+
+an-address : (g : Terms) (role m : ℕ) → T (eqb (bits 28 4 m) 0) → Holdable g role → Holds g (record { width = 32; clear = m; values = memoryLocation; holds = scaled role })
 an-address g role m z h =
-    let a : ℕ = h .address in
-    let low : bits 1 0 a ≡ 0 = omega (arith, h .multiple) in
-    record {
-      word = a;
-      small = omega (arith, h .small);
-      fits = record {
-        clear = masked a m (h .multiple) (h .small) (eqb-yes z);
-        value = yes-eqb low;
-        granted = rw (held a (h .multiple) (h .small)) (h .allows);
-      };
-    }
+    record { word = h .address; small = omega (arith, h .small); fits = address-fits g role m (h .address) z (h .multiple) (h .small) (h .allows) }
 
 -- 0 may stand where no address is held and the rule takes 0
 nothing-held : (g : Terms) (m : ℕ) (f : ℕ → Bool) → T (f 0) → Holds g (record { width = 32; clear = m; values = f; holds = noAddress })

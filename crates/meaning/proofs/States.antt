@@ -1,4 +1,4 @@
--- The writes of the marked cells take the empty state to a well-formed one, and a write of what a cell may hold keeps a state sound.
+-- The writes of one state's marked cells, over another; and a write of what a cell may hold keeps a state sound.
 -- Assumes nothing.
 use mathlib.Core.Path.{_≡_, refl, sym, subst, _∙_}
 use mathlib.Core.List.{List, [], _∷_, _++_}
@@ -54,80 +54,106 @@ formed-iff st = (
 -- ---- one write
 
 module _ (st : List ℕ) (n : length st ≡ stateWords) (c v : ℕ) (l : c < cells) where
-  abbrev next : List ℕ
+  abbrev pub next : List ℕ
   next = set (set st c v) (cells + c) 1
 
-  next-length : length next ≡ stateWords
+  pub next-length : length next ≡ stateWords
   next-length = length-set (set st c v) (cells + c) 1 ∙ length-set st c v ∙ n
 
-  value-same : valueAt next (cell c) ≡ v
+  pub value-same : valueAt next (cell c) ≡ v
   value-same = getD-set-other (set st c v) (cells + c) c 1 0 (λ e. omega arith) ∙ getD-set-same st c v 0 (omega arith)
 
-  mark-same : markAt next (cell c) ≡ 1
+  pub mark-same : markAt next (cell c) ≡ 1
   mark-same = getD-set-same (set st c v) (cells + c) 1 0 (omega (arith, length-set st c v))
 
-  value-other : (d : ℕ) → d < cells → d ≢ c → valueAt next (cell d) ≡ valueAt st (cell d)
+  pub value-other : (d : ℕ) → d < cells → d ≢ c → valueAt next (cell d) ≡ valueAt st (cell d)
   value-other d k e = getD-set-other (set st c v) (cells + c) d 1 0 (λ f. omega arith) ∙ getD-set-other st c d v 0 e
 
-  mark-other : (d : ℕ) → d ≢ c → markAt next (cell d) ≡ markAt st (cell d)
+  pub mark-other : (d : ℕ) → d ≢ c → markAt next (cell d) ≡ markAt st (cell d)
   mark-other d e = getD-set-other (set st c v) (cells + c) (cells + d) 1 0 (λ f. e (omega arith)) ∙ getD-set-other st c (cells + d) v 0 (λ f. omega arith)
 
--- ---- the marked cells, one after another
+-- ---- the marked cells of one state, written over another
 
--- cur is st below cell i and empty from there on
-record Agree (st cur : List ℕ) (i : ℕ) : Type 0 where
-  len : length cur ≡ stateWords
-  done : (c : ℕ) → c < i → c < cells → (valueAt cur (cell c) ≡ valueAt st (cell c)) × (markAt cur (cell c) ≡ markAt st (cell c))
-  todo : (c : ℕ) → i ≤ c → c < cells → (valueAt cur (cell c) ≡ 0) × (markAt cur (cell c) ≡ 0)
+-- cur is b laid over a below cell i, and a from there on
+pub record Upto (a b cur : List ℕ) (i : ℕ) : Type 0 where
+  pub size : length cur ≡ stateWords
+  pub done : (c : ℕ) → c < i → c < cells → 0 < markAt b (cell c) → (valueAt cur (cell c) ≡ valueAt b (cell c)) × (markAt cur (cell c) ≡ markAt b (cell c))
+  pub else : (c : ℕ) → c < cells → (c < i → ¬ 0 < markAt b (cell c)) → (valueAt cur (cell c) ≡ valueAt a (cell c)) × (markAt cur (cell c) ≡ markAt a (cell c))
 
-agree-skip : (st cur : List ℕ) (i : ℕ) → Formed st → i < cells → markAt st (cell i) ≡ 0 → Agree st cur i → Agree st cur (suc i)
-agree-skip st cur i f l z a =
-    let t = a .todo i (omega arith) l in
+upto-skip : (a b cur : List ℕ) (i : ℕ) → markAt b (cell i) ≡ 0 → Upto a b cur i → Upto a b cur (suc i)
+upto-skip a b cur i z u =
     record {
-      len = a .len;
-      done = λ c k m. elim (ℕ-discrete c i) [ yes e ↦ rw e (t .0 ∙ sym (f .clear i l z), t .1 ∙ sym z) | no e ↦ a .done c (omega arith) m ];
-      todo = λ c k m. a .todo c (omega arith) m;
+      size = u .size;
+      done = λ c k l m. elim (ℕ-discrete c i) [ yes e ↦ absurd (omega (arith, rw e at m)) | no e ↦ u .done c (omega arith) l m ];
+      else = λ c l h. u .else c l (λ k. h (omega arith));
     }
 
-agree-write : (st cur : List ℕ) (i : ℕ) → i < cells → markAt st (cell i) ≡ 1 → Agree st cur i
-    → Agree st (set (set cur i (valueAt st (cell i))) (cells + i) 1) (suc i)
-agree-write st cur i l z a =
-    let n = a .len in
-    let v = valueAt st (cell i) in
+upto-write : (a b cur : List ℕ) (i : ℕ) → i < cells → markAt b (cell i) ≡ 1 → Upto a b cur i
+    → Upto a b (set (set cur i (valueAt b (cell i))) (cells + i) 1) (suc i)
+upto-write a b cur i l z u =
+    let n = u .size in
+    let v = valueAt b (cell i) in
     record {
-      len = next-length cur n i v l;
-      done = λ c k m. elim (ℕ-discrete c i) [
+      size = next-length cur n i v l;
+      done = λ c k m q. elim (ℕ-discrete c i) [
         | yes e ↦ rw e (value-same cur n i v l, mark-same cur n i v l ∙ sym z)
-        | no e ↦ (value-other cur n i v l c m e ∙ a .done c (omega arith) m .0, mark-other cur n i v l c e ∙ a .done c (omega arith) m .1)
+        | no e ↦ let d = u .done c (omega arith) m q in (value-other cur n i v l c m e ∙ d .0, mark-other cur n i v l c e ∙ d .1)
       ];
-      todo = λ c k m.
-          let e : c ≢ i = λ f. omega arith in
-          (value-other cur n i v l c m e ∙ a .todo c (omega arith) m .0, mark-other cur n i v l c e ∙ a .todo c (omega arith) m .1);
+      else = λ c m h.
+          let e : c ≢ i = λ f. h (omega arith) (rw f (omega arith)) in
+          let d = u .else c m (λ k. h (omega arith)) in
+          (value-other cur n i v l c m e ∙ d .0, mark-other cur n i v l c e ∙ d .1);
     }
 
 -- cell i by its mark m, and then the others
-agree-one : (st cur : List ℕ) (i : ℕ) (ws : List Write) (m : ℕ) → Formed st → i < cells → markAt st (cell i) ≡ m → Agree st cur i
-    → ((now : List ℕ) → Agree st now (suc i) → Agree st (applyAll now ws) cells)
-    → Agree st (applyAll cur (ifSo (isMark m) (record { cell = cell i; value = valueAt st (cell i) }) ws)) cells
+upto-one : (a b cur : List ℕ) (i : ℕ) (ws : List Write) (m : ℕ) → Formed b → i < cells → markAt b (cell i) ≡ m → Upto a b cur i
+    → ((now : List ℕ) → Upto a b now (suc i) → Upto a b (applyAll now ws) cells)
+    → Upto a b (applyAll cur (ifSo (isMark m) (record { cell = cell i; value = valueAt b (cell i) }) ws)) cells
 unfolding applyAll apply
-agree-one st cur i ws zero f l e a more = more cur (agree-skip st cur i f l e a)
-agree-one st cur i ws (suc m) f l e a more = more _ (agree-write st cur i l (omega (arith, f .mark i l)) a)
+upto-one a b cur i ws zero f l e u more = more cur (upto-skip a b cur i e u)
+upto-one a b cur i ws (suc m) f l e u more = more _ (upto-write a b cur i l (omega (arith, f .mark i l)) u)
 
-agree-all : (st cur : List ℕ) (i n : ℕ) → Formed st → i + n ≡ cells → Agree st cur i → Agree st (applyAll cur (chosenFrom (marked st) st i n)) cells
+upto-all : (a b cur : List ℕ) (i n : ℕ) → Formed b → i + n ≡ cells → Upto a b cur i → Upto a b (applyAll cur (chosenFrom (marked b) b i n)) cells
 unfolding applyAll chosenFrom
-agree-all st cur i zero f e a = subst (Agree st cur) (omega arith) a
-agree-all st cur i (suc n) f e a =
-    agree-one st cur i (chosenFrom (marked st) st (suc i) n) (markAt st (cell i)) f (omega arith) refl a (λ now b. agree-all st now (suc i) n f (omega arith) b)
+upto-all a b cur i zero f e u = subst (Upto a b cur) (omega arith) u
+upto-all a b cur i (suc n) f e u =
+    upto-one a b cur i (chosenFrom (marked b) b (suc i) n) (markAt b (cell i)) f (omega arith) refl u (λ now q. upto-all a b now (suc i) n f (omega arith) q)
 
-agree-end : (st cur : List ℕ) → Formed st → Agree st cur cells → cur ≡ st
-agree-end st cur f a =
-    ext-getD 0 cur st (a .len ∙ sym (f .size))
+-- the writes of b's marked cells leave b where it is marked, and a elsewhere
+pub laid-over : (a b : List ℕ) → length a ≡ stateWords → Formed b → Upto a b (applyAll a (chosenFrom (marked b) b 0 cells)) cells
+laid-over a b n f = upto-all a b a 0 cells f refl (record { size = n; done = λ c k l m. absurd (omega arith); else = λ c l h. (refl, refl) })
+
+-- a cell of no mark
+pub unmarked : (m : ℕ) → ¬ 0 < m → m ≡ 0
+unmarked zero h = refl
+unmarked (suc m) h = absurd (h (omega arith))
+
+-- a state is its values and marks
+pub same-cells : (x y : List ℕ) → length x ≡ stateWords → length y ≡ stateWords
+    → ((c : ℕ) → c < cells → (valueAt x (cell c) ≡ valueAt y (cell c)) × (markAt x (cell c) ≡ markAt y (cell c))) → x ≡ y
+same-cells x y n m h =
+    ext-getD 0 x y (n ∙ sym m)
     (λ j k. elim (decLt j cells) [
-      | yes l ↦ a .done j l l .0
-      | no h ↦
+      | yes l ↦ h j l .0
+      | no q ↦
           let e : cells + (j - cells) ≡ j = omega arith in
-          let l : j - cells < cells = omega (arith, a .len) in
-          subst (λ (x : ℕ). getD cur x 0 ≡ getD st x 0) e (a .done (j - cells) l l .1)
+          let l : j - cells < cells = omega (arith, n) in
+          subst (λ (i : ℕ). getD x i 0 ≡ getD y i 0) e (h (j - cells) l .1)
+    ])
+
+-- over a state that marks no cell but those of b, they leave b itself
+pub laid-exactly : (a b : List ℕ) → Formed a → Formed b → ((c : ℕ) → c < cells → 0 < markAt a (cell c) → 0 < markAt b (cell c))
+    → applyAll a (chosenFrom (marked b) b 0 cells) ≡ b
+laid-exactly a b fa fb h =
+    let over = laid-over a b (fa .size) fb in
+    same-cells (applyAll a (chosenFrom (marked b) b 0 cells)) b (over .size) (fb .size)
+    (λ c l. elim (decLt 0 (markAt b (cell c))) [
+      | yes k ↦ over .done c l l k
+      | no k ↦
+          let was = over .else c l (λ i. k) in
+          let z = unmarked (markAt a (cell c)) (λ m. k (h c l m)) in
+          let y = unmarked (markAt b (cell c)) k in
+          (was .0 ∙ fa .clear c l z ∙ sym (fb .clear c l y), was .1 ∙ z ∙ sym y)
     ])
 
 empty-at : (i : ℕ) → i < stateWords → getD empty i 0 ≡ 0
@@ -138,17 +164,18 @@ empty-length : length empty ≡ stateWords
 unfolding empty
 empty-length = length-replicate {A = ℕ} stateWords 0
 
-empty-agree : (st : List ℕ) → Agree st empty 0
-empty-agree st =
+-- the empty state, as facts
+empty-formed : Formed empty
+empty-formed =
     record {
-      len = empty-length;
-      done = λ c k m. absurd (omega arith);
-      todo = λ c k m. (empty-at c (omega arith), empty-at (cells + c) (omega arith));
+      size = empty-length;
+      mark = λ c l. omega (arith, empty-at (cells + c) (omega arith));
+      clear = λ c l z. empty-at c (omega arith);
     }
 
 -- the writes of the marked cells rebuild the state
 pub rebuilt : (st : List ℕ) → Formed st → applyAll empty (chosenFrom (marked st) st 0 cells) ≡ st
-rebuilt st f = agree-end st _ f (agree-all st empty 0 cells f refl (empty-agree st))
+rebuilt st f = laid-exactly empty st empty-formed f (λ c l m. absurd (omega (arith, empty-at (cells + c) (omega arith))))
 
 -- ---- every reached state
 
@@ -204,15 +231,7 @@ sound-writes g st [] a s = s
 sound-writes g st (w ∷ ws) a s = sound-writes g (apply st w) ws (a .1) (sound-write g st w (a .0) s)
 
 pub empty-sound : (g : Terms) → Sound g empty
-empty-sound g =
-    record {
-      formed = record {
-        size = empty-length;
-        mark = λ c l. omega (arith, empty-at (cells + c) (omega arith));
-        clear = λ c l z. empty-at c (omega arith);
-      };
-      fine = λ c l m. absurd (omega (arith, empty-at (cells + c) (omega arith)));
-    }
+empty-sound g = record { formed = empty-formed; fine = λ c l m. absurd (omega (arith, empty-at (cells + c) (omega arith))) }
 
 -- ---- what writes leave alone, and what they leave
 
@@ -231,7 +250,7 @@ applied-append st [] ys = refl
 applied-append st (x ∷ xs) ys = applied-append (apply st x) xs ys
 
 pub empty-well-formed : T (wellFormed empty)
-empty-well-formed = formed-iff empty .1 (empty-sound (record { grants = [] }) .formed)
+empty-well-formed = formed-iff empty .1 empty-formed
 
 -- the last write to a cell
 pub last-holds : (st : List ℕ) → Formed st → (before : List Write) (w : Write) (later : List Write)

@@ -360,7 +360,7 @@ module _ (chosen : Cell → Bool) where
   unfolding roomAmong sections targetGroup stage sample overlay scaler from
   all-room = refl
 
-  -- "It needs at most 184 words"
+  -- W4 "No state needs more than 184 words."
   pub need-at-most : needFor chosen ≤ mostWritten
   unfolding needFor
   need-at-most = omega (arith, sections-room sections, all-room)

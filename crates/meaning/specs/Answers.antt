@@ -1,4 +1,4 @@
--- 6. Answers: the reasons' numbers, an answer's number, and what a call leaves in a lent buffer.
+-- Answers: the reasons' numbers, an answer's number, and what a call leaves in a lent buffer.
 -- Assumes nothing.
 use mathlib.Core.Bool.{Bool, cond}
 use mathlib.Core.List.{List}
@@ -6,67 +6,67 @@ use Prim.Native.Nat.{ℕ, _+_, _*_}
 use lib.Dec.{eqb}
 use Rattle.meaning.specs.declared.Answer.{Answer}
 
--- ---- "Why a batch comes back": the table's numbers, in its order; Reasons says when each is given
+-- ---- why a batch comes back: the table's numbers, in its order; Reasons says when each is given
 
--- "state not 202 words or not well-formed"
+-- Y1 "the state is not 202 words, or is not well-formed"
 abbrev pub badState : ℕ
 badState = 1
 
--- "grant list breaks its rules"
+-- Y2 "the grant list does not keep its rules"
 abbrev pub badGrants : ℕ
 badGrants = 2
 
--- "header offset neither 043Ch nor a video register"
+-- Y3 "the offset of a header is neither 043Ch nor a video register's"
 abbrev pub badOffset : ℕ
 badOffset = 3
 
--- "count outside its range, or run leaves the video registers"
+-- Y4 "the count of a header is out of its range, or its run does not stay within the video registers"
 abbrev pub badCount : ℕ
 badCount = 4
 
--- "setting not allowed"
+-- Y5 "a setting is none of those allowed"
 abbrev pub badSetting : ℕ
 badSetting = 5
 
--- "parameter names no register in the table"
+-- Y6 "a parameter's name is no register's of the table"
 abbrev pub noRegister : ℕ
 noRegister = 6
 
--- "a must-be-clear bit is set"
+-- Y7 "a bit that must be clear is set"
 abbrev pub bitSet : ℕ
 bitSet = 7
 
--- "a value rule broken"
+-- Y8 "a value does not keep its value rule"
 abbrev pub badValue : ℕ
 badValue = 8
 
--- "address not granted"
+-- Y9 "an address is not granted"
 abbrev pub notGranted : ℕ
 notGranted = 9
 
--- "the batch ends inside a packet"
+-- Y10 "the batch is over before a packet is"
 abbrev pub endsInside : ℕ
 endsInside = 10
 
--- "output shorter than needed (writer, lister)"
+-- Y11 "writer and lister: the output is shorter than they need"
 abbrev pub noRoom : ℕ
 noRoom = 11
 
--- "writer: a marked cell holds a value that 7, 8 or 9 would refuse, or a 3D value of 2^24 or more"
+-- Y12 "writer: a marked cell has a value that 7, 8 or 9 would refuse, or a 3D value not below 2^24"
 abbrev pub notWritable : ℕ
 notWritable = 12
 
--- "C call and program only: a buffer over 65,536 bytes, or a word buffer not a multiple of 4"
+-- Y13 "C calls and program alone: a buffer has more than 65,536 bytes, or a buffer of words has a length that is no multiple of 4"
 abbrev pub badBuffer : ℕ
 badBuffer = 13
 
--- "Reason 0 is success"
+-- Y0 "all is done": A1 "Reason 0 is success, and any other is a refusal."
 abbrev pub success : ℕ
 success = 0
 
 -- ---- answers
 
--- "A refusal gives the reason and place"
+-- A1 "An answer is a reason and a place."
 abbrev pub answer : ℕ → ℕ → Answer
 answer r p = record { reason = r; place = p }
 
@@ -74,10 +74,10 @@ answer r p = record { reason = r; place = p }
 abbrev pub provided : Bool → ℕ → Answer → Answer
 provided b r a = cond b a (answer r 0)
 
--- "the answer is one number, place × 256 + reason"
+-- C3 "one number: place × 256 + reason"
 abbrev pub numberOf : Answer → ℕ
 numberOf a = a .place * 256 + a .reason
 
--- "No refusal changes a lent buffer": what a buffer holds after a call
+-- A6 "A refusal leaves every lent buffer as it was.": what a buffer holds after a call
 abbrev pub settle : Answer → List ℕ → List ℕ → List ℕ
 settle a new old = cond (eqb (a .reason) success) new old

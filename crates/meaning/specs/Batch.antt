@@ -1,4 +1,4 @@
--- 4. Permitted packets and batches, said of the words alone; a cut; what begins a permitted batch.
+-- Permitted packets and batches, said of the words alone; a cut; what begins a permitted batch.
 -- Assumes nothing.
 use mathlib.Core.Path.{_≡_}
 use mathlib.Core.Bool.{Bool, true, _&&_}
@@ -18,29 +18,30 @@ use Rattle.meaning.specs.Grants.{Terms, granted}
 
 -- ---- a value in a register
 
--- where a value holds an address, it is granted
+-- B12 "holds no address that is not granted"
 abbrev pub reaches : Terms → Content → Bool
 reaches g nothing = true
 reaches g (address role a) = granted (g .grants) role a
 
--- a value may stand in a register: "Must be clear", "Values", and an address that it holds is granted
+-- B12 "A value may stand in a register if it has no bit set that must be clear, keeps the value rule, and holds no address that is not
+-- granted."
 pub record Fits (g : Terms) (r : Register) (v : ℕ) : Type 0 where
   pub clear : bitAnd v (r .clear) ≡ 0
   pub value : T (r .values v)
   pub granted : T (reaches g (r .holds v))
 
--- the table has the register, and the value may stand there
+-- B13 "names a register of the table, and each value may stand in its register": of one value
 abbrev pub Stands : Terms → Found → ℕ → Type 0
 Stands g (At c) v = Fits g (registerAt c) v
 Stands g Missing v = ⊥
 
 -- ---- packets
 
--- "3D packet: offset 043Ch, n from 2 to 113"
+-- B4 "A packet with offset 043Ch is a 3D packet"
 abbrev pub offset3D : ℕ
 offset3D = 0x043C
 
--- "(Rx40h to Rx1FFh hold 112; the manual goes on, we stop there.)": the setting and 112 parameters
+-- B4 "its count is from 2 to 113": the setting and B9 "at most 112 parameters, since Rx40h to Rx1FFh hold as many"
 abbrev pub most3D : ℕ
 most3D = 113
 
@@ -50,7 +51,8 @@ pub record SubTypes : Type 0 where
   pub first : ℕ
   pub last : ℕ
 
--- "Allowed: type 01h with sub-type 00h; type 02h with 00h to 0Fh (stage n) or 20h to 2Fh (sample n)"
+-- B7 "Allowed are type 01h with sub-type 00h, and type 02h with two rows of sub-types: 00h to 0Fh for stages 0 to 15, 20h to 2Fh for
+-- samples 0 to 15."
 unfoldable pub allowedTypes : List SubTypes
 allowedTypes =
     record { type = 0x01; first = 0x00; last = 0x00 }
@@ -62,19 +64,20 @@ allowedTypes =
 unfoldable pub typeAllowed : ℕ → ℕ → Bool
 typeAllowed t u = some (λ r. eqb t (r .type) && within (r .first) (r .last) u) allowedTypes
 
--- "HParaAdr and .. HParaOS, both 0 here"
+-- B6 "A setting is allowed only if HParaAdr and HParaOS are 0 in it."
 unfoldable pub allowed : ℕ → Bool
 allowed s = eqb (paraAdr s) 0 && (eqb (paraOS s) 0 && typeAllowed (paraType s) (paraSubType s))
 
--- the register that a parameter names under a setting
+-- the register that a parameter names under a setting: R19 "its type, its sub-type and its sub-address, all three"
 abbrev pub named : ℕ → ℕ → Found
 named s p = find3D (paraType s) (paraSubType s) (subAddress p)
 
--- a parameter names a register of the table, and its data may stand there
+-- B13 "each parameter names a register of the table", and its data may stand there
 abbrev pub ParameterStands : Terms → ℕ → ℕ → Type 0
 ParameterStands g s p = Stands g (named s p) (data24 p)
 
--- "3D packet": a header h, a setting s and parameters
+-- B4 "a 3D packet, and its count is from 2 to 113"; B13 "with an allowed setting". A header h, a setting s, and B8 "The words behind the
+-- setting are parameters"
 pub record Packet3D (g : Terms) (h s : ℕ) (ps : List ℕ) : Type 0 where
   pub bound : offset h ≡ offset3D
   pub low : 2 ≤ count h
@@ -83,43 +86,44 @@ pub record Packet3D (g : Terms) (h s : ℕ) (ps : List ℕ) : Type 0 where
   pub setting : T (allowed s)
   pub parameters : All (ParameterStands g s) ps
 
--- "the offset and each following offset of the run is a video register": words for a run from offset o on
+-- B10 "every offset that a word of it is bound for is that of a video register of the table": words for a run from offset o on
 abbrev pub Run : Terms → VideoOffset → List ℕ → Type 0
 Run g o [] = Unit {0}
 Run g o (v ∷ vs) = Stands g (findVideo o) v × Run g (following o) vs
 
--- "Video packet": a header h and a run of words; "n is at least 1"
+-- B10 "a video packet. Its count is at least 1": a header h and a run of words. Its offset is not 043Ch, which is no video register's
 pub record PacketVideo (g : Terms) (h : ℕ) (vs : List ℕ) : Type 0 where
   pub low : 1 ≤ count h
   pub whole : length vs ≡ count h
   pub run : Run g (videoOffset h) vs
 
--- a permitted packet is one or the other
+-- B13 "A packet is permitted if it is a 3D packet with an allowed setting or a video packet"
 pub data Packet (g : Terms) : List ℕ → Type 0 where
   packet3D : {h s : ℕ} {ps : List ℕ} → Packet3D g h s ps → Packet g (h ∷ s ∷ ps)
   packetVideo : {h : ℕ} {vs : List ℕ} → PacketVideo g h vs → Packet g (h ∷ vs)
 
 -- ---- batches
 
--- "a row of whole permitted packets": a way to cut the words into them. "The empty batch is permitted"
+-- B14 "A batch is permitted if it is a row of whole permitted packets.": a way to cut the words into them. B15 "The batch of no words is
+-- permitted.", as no packets
 pub record Cut (g : Terms) (ws : List ℕ) : Type 0 where
   pub packets : List (List ℕ)
   pub joined : join packets ≡ ws
   pub permitted : All (Packet g) packets
 
--- some permitted batch starts with these words; what it goes on with is words of 32 bits
+-- D3 "some permitted batch begins with" these words; what it goes on with is words of 32 bits
 pub record Begins (g : Terms) (ws : List ℕ) : Type 0 where
   pub more : List ℕ
   pub words : All Word more
   pub cut : Cut g (ws ++ more)
 
--- p is "the length of the longest beginning of the batch with which some permitted batch starts"
+-- p is D3 "the length of the longest beginning of the batch that some permitted batch begins with"
 pub record Longest (g : Terms) (ws : List ℕ) (p : ℕ) : Type 0 where
   pub within : p ≤ length ws
   pub begins : Begins g (take p ws)
   pub longest : (n : ℕ) → n ≤ length ws → Begins g (take n ws) → n ≤ p
 
--- the role "has at least one granted address that its registers can hold": "a multiple of 16 below 2^29"
+-- the role, D3 "has a granted address that its registers can hold": R22 "a multiple of 16 below 2^29"
 pub record Holdable (g : Terms) (role : ℕ) : Type 0 where
   pub address : ℕ
   pub multiple : address % 16 ≡ 0

@@ -1,4 +1,4 @@
--- Document 01's cases K1 to K12 as one table; batches for likely slips; grant lists; the 39 permitted format bytes.
+-- Cases K1 to K12 as one table; batches for likely slips; grant lists; the 39 permitted format bytes.
 -- Assumes nothing.
 use mathlib.Core.List.{List, [], _∷_, _++_, map}
 use Prim.Native.Nat.{ℕ, _+_, _*_}
@@ -30,54 +30,67 @@ accepted grants s w c v = record { batch = 0x0002043C ∷ s ∷ w ∷ []; grants
 abbrev pub refused : List ℕ → ℕ → ℕ → ℕ → Case
 refused grants s w r = record { batch = 0x0002043C ∷ s ∷ w ∷ []; grants = grants; gives = answer r 2; leaves = empty }
 
--- the grant of K1 and K2, with its reach
+-- K1 "role 1, start 00100000h, length 00080000h": the grant of K1 and K2, with its reach
 abbrev pub grant : ℕ → List ℕ
 grant reach = 1 ∷ 0x00100000 ∷ 0x00080000 ∷ reach ∷ []
 
--- "In type 01": setting 00010000
+-- the setting of K1 to K8
 abbrev pub type01 : ℕ
 type01 = 0x00010000
 
--- sample 3: "Setting 23020000"
+-- sample 3: the setting of K9 to K11
 abbrev pub sample3 : ℕ
 sample3 = 0x23020000
 
--- stage 3: "Setting 03020000"
+-- stage 3: the setting of K12
 abbrev pub stage3 : ℕ
 stage3 = 0x03020000
 
--- K1 to K12, a line each
+-- K1 to K12, a line each: setting, word, grants, answer
 unfoldable pub cases : List Case
 cases =
+    -- K1 "00010000 | 50001000 | role 1, start 00100000h, length 00080000h, reach 00080000h | accepted, cell 1"
     accepted (grant 0x00080000) type01 0x50001000 1 0x001000
+    -- K2 "00010000 | 50001000 | the same with reach 00080001h | 9 at 2"
     ∷ refused (grant 0x00080001) type01 0x50001000 9
+    -- K3 "00010000 | 50001000 | none | 9 at 2"
     ∷ refused [] type01 0x50001000 9
+    -- K4 "00010000 | 3F400400 | none | accepted, cell 0"
     ∷ accepted [] type01 0x3F400400 0 0x400400
+    -- K5 "00010000 | 3F000401 | none | 8 at 2"
     ∷ refused [] type01 0x3F000401 8
+    -- K6 "00010000 | 3F000800 | none | 7 at 2"
     ∷ refused [] type01 0x3F000800 7
+    -- K7 "00010000 | 52990000 | none | accepted, cell 3"
     ∷ accepted [] type01 0x52990000 3 0x990000
+    -- K8 "00010000 | 52940000 | none | 8 at 2"
     ∷ refused [] type01 0x52940000 8
+    -- K9 "23020000 | 31004100 | none | accepted, cell 46"
     ∷ accepted [] sample3 0x31004100 46 0x004100
+    -- K10 "23020000 | 31004080 | none | 8 at 2"
     ∷ refused [] sample3 0x31004080 8
+    -- K11 "23020000 | 50000001 | none | 6 at 2"; with K12 it is for E1 "A register is looked up by its sub-address alone (K11, K12)."
     ∷ refused [] sample3 0x50000001 6
+    -- K12 "03020000 | 50000001 | none | accepted, cell 10"
     ∷ accepted [] stage3 0x50000001 10 0x000001
     ∷ []
 
--- "Slips we expect someone to make", a batch for each that K1 to K12 do not catch
+-- slips to expect, a batch for each that K1 to K12 do not catch
 unfoldable pub slips : List Case
 slips =
-    -- address + reach is 2^32 + 1, past the end of memory: the sum must not wrap
+    -- E2 "The address is tested and address + reach is not, or that sum wraps.": it is 2^32 + 1 here, past the end of memory
     refused (1 ∷ 0xFFFFFF00 ∷ 0x100 ∷ 0x101 ∷ []) type01 0x50FFFFFF 9
-    -- a 3D packet of 114 words, and a run that leaves the video registers
+    -- a 3D packet of 114 words, K18 "0072043C | 4 at 0",
     ∷ record { batch = 0x0072043C ∷ []; grants = []; gives = answer 4 0; leaves = empty }
+    -- and a run that leaves the video registers, K21 "000823E4 | 4 at 0"
     ∷ record { batch = 0x000823E4 ∷ []; grants = []; gives = answer 4 0; leaves = empty }
-    -- "The empty batch is permitted"
+    -- B15 "The batch of no words is permitted."
     ∷ record { batch = []; grants = []; gives = answer 0 0; leaves = empty }
     -- two packets are two writes
     ∷ record { batch = 0x00012208 ∷ 0x07FF07FF ∷ 0x0001220C ∷ 0x00000001 ∷ []; grants = []; gives = answer 0 4; leaves = set (set (holding 84 0x07FF07FF) 85 1) (cells + 85) 1 }
-    -- the second packet is refused, so the first has not happened
+    -- the second packet is refused, so the first has not happened: E3 "half of a refused batch has happened"
     ∷ record { batch = 0x00012208 ∷ 0x07FF07FF ∷ 0x0001220C ∷ 0xF8000000 ∷ []; grants = []; gives = answer 7 3; leaves = empty }
-    -- short by a word, but its bad word comes first
+    -- its bad word comes first: E4 "A batch that is cut short is called so before a bad word further in front is named."
     ∷ record { batch = 0x0003043C ∷ type01 ∷ 0x3F000800 ∷ []; grants = []; gives = answer 7 2; leaves = empty }
     ∷ []
 
@@ -85,7 +98,7 @@ slips =
 abbrev pub Holds : Case → Type 0
 Holds c = (readAnswer (c .batch) (c .grants) empty ≡ c .gives) × (readLeaves (c .batch) (c .grants) empty ≡ c .leaves)
 
--- both sides of each rule of the grant list: lists that keep the rules
+-- both sides of each rule of the grant list, G2 to G4: lists that keep the rules
 unfoldable pub keeping : List (List ℕ)
 keeping =
     []
@@ -114,6 +127,6 @@ full = replicate cells 0 ++ replicate cells 1
 abbrev pub bytesIn : Format → List ℕ
 bytesIn f = map (λ (x : ℕ). f .code * 8 + x) (f .with)
 
--- "That is 39"
+-- F9 "39 are"
 unfoldable pub formatBytes : List ℕ
 formatBytes = join (map bytesIn formats)

@@ -1,4 +1,5 @@
--- The three calls on bytes: "every buffer is bytes, words are 32 bits little-endian, and the answer is one number".
+-- The three calls on bytes.
+-- C2 "In a C call every buffer is bytes, and four bytes are a word of 32 bits, the lowest byte first."
 -- Assumes nothing.
 use mathlib.Core.Bool.{Bool, _&&_}
 use mathlib.Core.List.{List, [], _∷_}
@@ -13,21 +14,21 @@ use Rattle.meaning.specs.Reader.{readAnswer, readLeaves}
 use Rattle.meaning.specs.Writer.{written, writeAnswer}
 use Rattle.meaning.specs.Lister.{listing, listAnswer}
 
--- 13: "a buffer over 65,536 bytes, or a word buffer not a multiple of 4"
+-- Y13 "65,536 bytes"
 abbrev pub mostBytes : ℕ
 mostBytes = 65536
 
--- no "buffer over 65,536 bytes"
+-- not so: Y13 "a buffer has more than 65,536 bytes"
 unfoldable pub bufferFine : List ℕ → Bool
 bufferFine b = leb (length b) mostBytes
 
--- nor "a word buffer not a multiple of 4"
+-- nor so: Y13 "a buffer of words has a length that is no multiple of 4"
 unfoldable pub wordBufferFine : List ℕ → Bool
 wordBufferFine b = bufferFine b && eqb (length b % 4) 0
 
 -- ---- read
 
--- the answer on three buffers of words: batch, grants and state. "Order: 13, 1, 2; .."
+-- A2 "13 goes before 1": the answer on three buffers of words, batch, grants and state
 unfoldable pub exportedRead : List ℕ → List ℕ → List ℕ → Answer
 exportedRead batch grants st =
     provided (every wordBufferFine (batch ∷ grants ∷ st ∷ [])) badBuffer (readAnswer (wordsOf batch) (wordsOf grants) (wordsOf st))
@@ -38,18 +39,18 @@ exportedReadLeaves batch grants st = settle (exportedRead batch grants st) (byte
 
 -- ---- write
 
--- the answer on three buffers of words: state, grants and output, whose room is counted in words
+-- A2 "13 goes before 1": the answer on three buffers of words, state, grants and output, whose room is counted in words
 unfoldable pub exportedWrite : List ℕ → List ℕ → List ℕ → Answer
 exportedWrite st grants out =
     provided (every wordBufferFine (st ∷ grants ∷ out ∷ [])) badBuffer (writeAnswer (wordsOf st) (wordsOf grants) (length out / 4))
 
--- the bytes of the output after the call
+-- the bytes of the output after the call: W5 "The words of the output behind the last one written stay as they were."
 unfoldable pub exportedWriteLeaves : List ℕ → List ℕ → List ℕ → List ℕ
 exportedWriteLeaves st grants out = settle (exportedWrite st grants out) (over (bytesOf (written (wordsOf st))) out) out
 
 -- ---- list
 
--- the answer on a buffer of words, the state, and one of bytes, the output
+-- A2 "13 goes before 1": the answer on a buffer of words, the state, and one of bytes, the output
 unfoldable pub exportedList : List ℕ → List ℕ → Answer
 exportedList st out = provided (wordBufferFine st && bufferFine out) badBuffer (listAnswer (wordsOf st) (length out))
 

@@ -1,4 +1,5 @@
--- The fitter's question, "Can one scribble on the other?": addresses, their reach, and the memory that grants give. Whole numbers.
+-- The fitter's question, whether one program can scribble on the other: addresses, their reach, and the memory that grants give. Whole
+-- numbers.
 -- Assumes nothing.
 use mathlib.Core.Path.{_≡_}
 use mathlib.Core.List.{List, List·Memᴰ}
@@ -7,7 +8,7 @@ use Rattle.meaning.specs.Registers.{Content, nothing, address, registerA
 use Rattle.meaning.specs.Grants.{Grant}
 use Rattle.meaning.specs.State.{Write}
 
--- a grant of the role, and the address with its reach lies in the grant's range
+-- G5 "grant of that role has start ≤ a and a + reach ≤ start + length": said of one grant, as facts
 pub record Admits (x : Grant) (role a : ℕ) : Type 0 where
   pub role-is : x .role ≡ role
   pub from : x .start ≤ a
@@ -21,7 +22,7 @@ Touches a reach b = (a ≤ b) × (b < a + reach)
 abbrev pub Contains : Grant → ℕ → Type 0
 Contains x b = (x .start ≤ b) × (b < x .start + x .length)
 
--- some grant of the list admits the address
+-- G5 "A role is granted an address a if some grant of that role has": said as a fact
 pub record Inside (ours : List Grant) (role a : ℕ) : Type 0 where
   pub grant : Grant
   pub listed : List·Memᴰ grant ours

@@ -1,4 +1,5 @@
--- 3. Grants: read from words, the rules of the list, and when an address is granted. All sums are of whole numbers.
+-- Grants: read from words, the rules of the list, and when an address is granted.
+-- G6 "These sums are of whole numbers, and do not wrap."
 -- Assumes nothing.
 use mathlib.Core.Bool.{Bool, _&&_}
 use mathlib.Core.List.{List, [], _∷_}
@@ -8,7 +9,7 @@ use lib.ListN.{length}
 use Rattle.laws.specs.Lists.{every, some}
 use Rattle.laws.specs.Tests.{within}
 
--- "Four words each: role (1 target, 2 first scaler, 3 second), start, length, reach"
+-- G1 "A grant is four words, in this order: role, start, length, reach."
 pub record Grant : Type 0 where
   pub role : ℕ
   pub start : ℕ
@@ -23,23 +24,24 @@ grantsOf (r ∷ s ∷ []) = []
 grantsOf (r ∷ s ∷ l ∷ []) = []
 grantsOf (r ∷ s ∷ l ∷ h ∷ rest) = record { role = r; start = s; length = l; reach = h } ∷ grantsOf rest
 
--- "Start + length is at most 2^32 and reach at least 1, as whole numbers"
+-- G2 "Role 1 is the target, role 2 the first scaler, role 3 the second scaler; there is no other."
+-- G4 "Start + length is not above 2^32, and reach is not 0."
 unfoldable pub grantFine : Grant → Bool
 grantFine g = within 1 3 (g .role) && (leb (g .start + g .length) (2 ^ 32) && leb 1 (g .reach))
 
--- "0 to 64 whole grants, overlaps allowed"
+-- G3 "0 to 64 grants"
 abbrev pub mostGrants : ℕ
 mostGrants = 64
 
--- the rules of the list: whole grants, at most 64 of them, and each fine
+-- the rules of the list: G3 "A grant list is 0 to 64 grants and nothing besides. They may overlap", and each is fine
 unfoldable pub grantsFine : List ℕ → Bool
 grantsFine gs = eqb (length gs % 4) 0 && (leb (length gs / 4) mostGrants && every grantFine (grantsOf gs))
 
--- "start ≤ a and a + reach ≤ start + length", for a grant of that role
+-- G5 "grant of that role has start ≤ a and a + reach ≤ start + length"
 unfoldable pub covers : ℕ → ℕ → Grant → Bool
 covers role a g = eqb (g .role) role && (leb (g .start) a && leb (a + g .reach) (g .start + g .length))
 
--- "An address a is granted to a role exactly if some grant of that role has .."
+-- G5 "A role is granted an address a if some grant of that role has .. and only then."
 unfoldable pub granted : List Grant → ℕ → ℕ → Bool
 granted gs role a = some (covers role a) gs
 
@@ -47,5 +49,6 @@ granted gs role a = some (covers role a) gs
 pub record Terms : Type 0 where
   pub grants : List Grant
 
+-- as a list of words gives it
 abbrev pub termsOf : List ℕ → Terms
 termsOf gs = record { grants = grantsOf gs }

@@ -1,4 +1,5 @@
--- What a reader must believe, in document 01's order. Each definition is headed by the sentence that it renders.
+-- What a reader must believe. A definition is headed by the rule that it renders: the rule's label in docs/RULES.md, and a quote from
+-- there; or by a line of its own, where it only serves those beside it. .ci/rules holds the quotes to that page.
 -- The declarative side, Words to State, imports nothing of what stands below it.
 -- Letters: g terms, ws words, w word or write, h header, s setting, p parameter or place, v value, o offset, t type, u sub-type,
 -- a address or answer, c cell, st state, r reason, row or register, k words left, n number, i index.

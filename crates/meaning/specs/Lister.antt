@@ -1,4 +1,5 @@
--- 7. Listing: the exact bytes, and what the lister answers.
+-- Listing: the exact bytes, and what the lister answers.
+-- P3 "The lister takes a state, and makes a text of it."
 -- Assumes nothing.
 use mathlib.Core.Bool.{cond}
 use mathlib.Core.List.{List, [], _∷_, _++_}
@@ -17,28 +18,28 @@ use Rattle.meaning.specs.Text.{ascii}
 
 -- ---- digits
 
--- a digit as a byte: 0 to 9, then a to f, "lower-case"
+-- a digit as a byte: 0 to 9, then a to f, L3 "in lower case"
 unfoldable pub digit : ℕ → ℕ
 digit d = cond (ltb d 10) (48 + d) (87 + d)
 
--- the k lowest hex digits of a number, "with every leading zero"
+-- L3 "with all leading zeros": the k lowest hex digits of a number
 unfoldable pub hex : ℕ → ℕ → List ℕ
 hex zero n = []
 hex (suc k) n = digit (n / 16 ^ k % 16) ∷ hex k n
 
--- a number below 1,000 "in decimal without leading zeros"
+-- L2 "in decimal without leading zeros": a number below 1,000
 unfoldable pub decimal : ℕ → List ℕ
 decimal n =
     cond (ltb n 10) (digit n ∷ [])
     (cond (ltb n 100) (digit (n / 10) ∷ digit (n % 10) ∷ []) (digit (n / 100) ∷ digit (n / 10 % 10) ∷ digit (n % 10) ∷ []))
 
--- ---- lines, "each line ended by 0Ah"
+-- ---- lines: L1 "lines of keys with their values, an = between them, and the byte 0Ah ends each line"
 
--- as `reg=01.00.50 val=00001000`
+-- L4 "like `reg=01.00.50 val=00001000`: type, sub-type and sub-address of two digits each, and a value of eight"
 abbrev pub line3D : ℕ → ℕ → SubAddress → ℕ → List ℕ
 line3D t u a v = ascii "reg=" ++ (hex 2 t ++ (ascii "." ++ (hex 2 u ++ (ascii "." ++ (hex 2 (a .0) ++ (ascii " val=" ++ (hex 8 v ++ ascii "\n")))))))
 
--- "A video line reads `reg=23f0 val=` and eight digits"
+-- L5 "like `reg=23f0 val=00001000`: an offset of four digits and a value of eight"
 abbrev pub lineVideo : VideoOffset → ℕ → List ℕ
 lineVideo o v = ascii "reg=" ++ (hex 4 (o .0) ++ (ascii " val=" ++ (hex 8 v ++ ascii "\n")))
 
@@ -57,25 +58,26 @@ unfoldable pub linesAmong : List ℕ → List Section → List (List ℕ)
 linesAmong st [] = []
 linesAmong st (s ∷ ss) = linesIn st s ++ linesAmong st ss
 
--- a line for each marked cell, in cell order
+-- L3 "A line for each marked cell follows, in the order of the cells."
 unfoldable pub cellLines : List ℕ → List (List ℕ)
 cellLines st = linesAmong st sections
 
--- "at most 2,568 bytes"
+-- L6 "No listing has more than 2,568 bytes."
 abbrev pub mostListed : ℕ
 mostListed = 2568
 
--- "The listing is key=value lines, the count in decimal without leading zeros, .."
+-- L2 "The first line is `cells=` with the number of marked cells, in decimal without leading zeros."; then the lines of the cells
 unfoldable pub listing : List ℕ → List ℕ
 listing st = ascii "cells=" ++ (decimal (length (cellLines st)) ++ (ascii "\n" ++ join (cellLines st)))
 
--- ---- the call: "lister 1 then 11"
+-- ---- the call
 
--- the answer, given room for so many bytes
+-- A4 "the lister 1 before 11": the answer, given room for so many bytes; Y11 "the output is shorter than they need", Y0 "lister: the bytes
+-- written"
 unfoldable pub listAnswer : List ℕ → ℕ → Answer
 listAnswer st room =
     provided (wellFormed st) badState (provided (leb (length (listing st)) room) noRoom (answer success (length (listing st))))
 
--- the output after the call: "bytes past its end stay as they were"
+-- the output after the call: L7 "The bytes of the output behind the last one written stay as they were."
 unfoldable pub listLeaves : List ℕ → List ℕ → List ℕ
 listLeaves st out = settle (listAnswer st (length out)) (over (listing st) out) out

@@ -14,11 +14,11 @@ use Rattle.meaning.specs.Registers.{findVideo}
 use Rattle.meaning.specs.Batch.{offset3D, named}
 use Rattle.meaning.specs.State.{Write, writeTo}
 
--- after a header
+-- after a header: B5 "The body of a 3D packet begins with the setting", any other is a run of B10
 unfoldable pub kindOf : ℕ → Kind
 kindOf h = cond (eqb (offset h) offset3D) Setting (Video (videoOffset h))
 
--- after a word of a packet's body
+-- after a word of a packet's body: B8 "The words behind the setting are parameters", and the offsets of a run go on
 unfoldable pub after : Kind → ℕ → Kind
 after Setting w = Parameter w
 after (Parameter s) w = Parameter s
@@ -29,7 +29,7 @@ unfoldable pub nextKind : Kind → ℕ → ℕ → Kind
 nextKind kind zero w = kindOf w
 nextKind kind (suc k) w = after kind w
 
--- "n words follow"
+-- how many words of a packet are still to come: B3 "The n words behind the header are the packet's body."
 unfoldable pub nextLeft : ℕ → ℕ → ℕ
 nextLeft zero w = count w
 nextLeft (suc k) w = k
@@ -50,7 +50,7 @@ goes Setting w = Missing
 goes (Parameter s) w = named s w
 goes (Video o) w = findVideo o
 
--- and the value that it carries there: a parameter's data bits, the whole of a video word
+-- and the value that it carries there: S5 "A parameter writes its 24 bits of data, and a word of a video packet writes all its 32 bits."
 unfoldable pub carries : Kind → ℕ → ℕ
 carries Setting w = w
 carries (Parameter s) w = data24 w

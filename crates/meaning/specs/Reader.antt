@@ -1,4 +1,5 @@
--- 6. What the reader answers: "reader words from the front, at each word in number order, 10 last".
+-- What the reader answers.
+-- A3 "The reader takes the words from the front, and at each word the reasons by their numbers; 10 is last."
 -- Assumes nothing.
 use mathlib.Core.Bool.{Bool, true, false, _&&_, cond}
 use mathlib.Core.List.{List, [], _∷_}
@@ -27,26 +28,27 @@ unfoldable pub unless : Bool → ℕ → ℕ → ℕ
 unless true r more = more
 unless false r more = r
 
--- the offsets o, o + 4 and on, n of them, are video registers
+-- B10 "every offset that a word of it is bound for is that of a video register of the table": n offsets from o on
 unfoldable pub runIn : VideoOffset → ℕ → Bool
 runIn o zero = true
 runIn o (suc n) = let more = runIn (following o) n in isFound (findVideo o) && more
 
--- 4 of a 3D packet
+-- Y4 "the count of a header is out of its range": B4 "from 2 to 113" of a 3D packet
 abbrev pub reason3D : ℕ → ℕ
 reason3D h = unless (within 2 most3D (count h)) badCount success
 
--- 3 and 4 of any other
+-- Y3 "the offset of a header is neither 043Ch nor a video register's", then Y4 "the count of a header is out of its range, or its run does
+-- not stay within the video registers": of any other, with B10 "at least 1"
 abbrev pub reasonVideo : ℕ → ℕ
 reasonVideo h =
     unless (isFound (findVideo (videoOffset h))) badOffset
     (unless (leb 1 (count h) && runIn (videoOffset h) (count h)) badCount success)
 
--- 3 and 4 of a header
+-- Y3 and Y4 of a header
 unfoldable pub headerReason : ℕ → ℕ
 headerReason h = cond (eqb (offset h) offset3D) (reason3D h) (reasonVideo h)
 
--- 7, 8 and 9
+-- Y7 "a bit that must be clear is set", Y8 "a value does not keep its value rule", Y9 "an address is not granted", in this order
 unfoldable pub valueReason : Terms → Register → ℕ → ℕ
 valueReason g r v =
     unless (eqb (bitAnd v (r .clear)) 0) bitSet (unless (r .values v) badValue (unless (reaches g (r .holds v)) notGranted success))
@@ -56,13 +58,14 @@ abbrev pub foundReason : Terms → ℕ → Found → ℕ → ℕ
 foundReason g none (At c) v = valueReason g (registerAt c) v
 foundReason g none Missing v = none
 
--- of a word of a packet's body; a header refuses a run that leaves the video registers, so 4 comes to no word of a run
+-- Y5 "a setting is none of those allowed"; Y6 "a parameter's name is no register's of the table", then 7 to 9; 7 to 9 of a word of a run. A
+-- header refuses a run that leaves the video registers, so 4 comes to no word of a run
 unfoldable pub wordReason : Terms → Kind → ℕ → ℕ
 wordReason g Setting w = unless (allowed w) badSetting success
 wordReason g (Parameter s) w = foundReason g noRegister (named s w) (data24 w)
 wordReason g (Video o) w = foundReason g badCount (findVideo o) w
 
--- of a word at its position
+-- A3 "at each word the reasons by their numbers": of a word at its position
 unfoldable pub judge : Terms → Kind → ℕ → ℕ → ℕ
 judge g kind zero w = headerReason w
 judge g kind (suc k) w = wordReason g kind w
@@ -78,12 +81,12 @@ abbrev pub follow : ℕ → Answer → Answer
 follow zero a = onward a
 follow (suc r) a = answer (suc r) 0
 
--- "the batch ends inside a packet", or it does not
+-- Y10 "the batch is over before a packet is", or it is not
 abbrev pub ended : ℕ → Answer
 ended zero = answer success 0
 ended (suc k) = answer endsInside 0
 
--- the words from a position on
+-- A3 "takes the words from the front": those from a position on
 unfoldable pub run : Terms → Kind → ℕ → List ℕ → Answer
 run g kind k [] = ended k
 run g kind k (w ∷ ws) = follow (judge g kind k w) (run g (nextKind kind k w) (nextLeft k w) ws)
@@ -92,13 +95,13 @@ run g kind k (w ∷ ws) = follow (judge g kind k w) (run g (nextKind kind k w) (
 unfoldable pub batchAnswer : Terms → List ℕ → Answer
 batchAnswer g ws = run g Setting 0 ws
 
--- ---- the call: "Order: 13, 1, 2; then reader words from the front"
+-- ---- the call: P1 "The reader takes a batch, a grant list and a state"
 
--- the answer: 1, 2, then what the words give
+-- A2 "1 before 2, and 2 before all others", then what the words give
 unfoldable pub readAnswer : List ℕ → List ℕ → List ℕ → Answer
 readAnswer batch grants st =
     provided (wellFormed st) badState (provided (grantsFine grants) badGrants (batchAnswer (termsOf grants) batch))
 
--- the state after the call
+-- P1 "either changes the state as the batch says or refuses the batch": the state after the call
 unfoldable pub readLeaves : List ℕ → List ℕ → List ℕ → List ℕ
 readLeaves batch grants st = settle (readAnswer batch grants st) (applyAll st (writesOf batch)) st

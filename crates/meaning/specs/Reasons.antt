@@ -1,5 +1,6 @@
--- 6. "Why a batch comes back": the table row by row, as what must be the case for a reason and a place. "Each is given exactly then"
--- is each-reason-exactly in proofs/Promises. No answer is computed here: of Writer and Lister only the exact words and bytes are cited.
+-- Why a batch comes back: the table row by row, as what must be the case for a reason and a place.
+-- A5 "A reason is given exactly if its row fits and nothing fits that goes before it in this order." is each-reason-exactly in
+-- proofs/Promises. No answer is computed here: of Writer and Lister only the exact words and bytes are cited.
 -- Assumes nothing.
 use mathlib.Core.Path.{_≡_}
 use mathlib.Core.Logic.{_≢_, _⊎_}
@@ -35,23 +36,23 @@ VideoRun o (suc n) = VideoRegister o × VideoRun (following o) n
 
 -- rows 3 to 9: a word w for which reason r is given. At a header no word of a packet is left; in a packet k + 1 are.
 pub data Given (g : Terms) : Kind → ℕ → ℕ → ℕ → Type 0 where
-  -- "header offset neither 043Ch nor a video register"
+  -- Y3 "the offset of a header is neither 043Ch nor a video register's"
   bad-offset : {kind : Kind} {h : ℕ} → offset h ≢ offset3D → ¬ VideoRegister (videoOffset h) → Given g kind 0 h 3
-  -- "count outside its range": of a 3D packet
+  -- Y4 "the count of a header is out of its range": of a 3D packet
   bad-count : {kind : Kind} {h : ℕ} → offset h ≡ offset3D → (count h < 2) ⊎ (most3D < count h) → Given g kind 0 h 4
-  -- "count outside its range, or run leaves the video registers": of a video packet
+  -- Y4 "the count of a header is out of its range, or its run does not stay within the video registers": of a video packet
   bad-run : {kind : Kind} {h : ℕ} → VideoRegister (videoOffset h) → (count h < 1) ⊎ (¬ VideoRun (videoOffset h) (count h)) → Given g kind 0 h 4
-  -- "setting not allowed"
+  -- Y5 "a setting is none of those allowed"
   bad-setting : {k s : ℕ} → ¬ T (allowed s) → Given g Setting (suc k) s 5
-  -- "parameter names no register in the table"
+  -- Y6 "a parameter's name is no register's of the table"
   no-register : {k s w : ℕ} → named s w ≡ Missing → Given g (Parameter s) (suc k) w 6
-  -- "a must-be-clear bit is set"
+  -- Y7 "a bit that must be clear is set"
   bit-set : {kind : Kind} {k w : ℕ} (c : Cell) → goes kind w ≡ At c → bitAnd (carries kind w) (registerAt c .clear) ≢ 0
       → Given g kind (suc k) w 7
-  -- "a value rule broken"
+  -- Y8 "a value does not keep its value rule", and not 7
   bad-value : {kind : Kind} {k w : ℕ} (c : Cell) → goes kind w ≡ At c → bitAnd (carries kind w) (registerAt c .clear) ≡ 0
       → ¬ T (registerAt c .values (carries kind w)) → Given g kind (suc k) w 8
-  -- "address not granted"
+  -- Y9 "an address is not granted", and neither 7 nor 8
   not-granted : {kind : Kind} {k w : ℕ} (c : Cell) → goes kind w ≡ At c → bitAnd (carries kind w) (registerAt c .clear) ≡ 0
       → T (registerAt c .values (carries kind w)) → ¬ T (reaches g (registerAt c .holds (carries kind w))) → Given g kind (suc k) w 9
 
@@ -65,25 +66,25 @@ NoneBefore g ws n = (i : ℕ) → i < n → (r : ℕ) → ¬ GivenAt g ws i r
 
 -- ---- the reader: reason r at place p
 
--- "Given when" and "Place", for batch, grants and state as they were handed in
+-- the columns Given when and Place, for batch, grants and state as they were handed in
 pub data ReaderGives (batch grants st : List ℕ) : ℕ → ℕ → Type 0 where
-  -- "state not 202 words or not well-formed"
+  -- Y1 "the state is not 202 words, or is not well-formed | 0"
   bad-state : ¬ T (wellFormed st) → ReaderGives batch grants st 1 0
-  -- "grant list breaks its rules"
+  -- Y2 "the grant list does not keep its rules | 0"; A2 "1 before 2"
   bad-grants : T (wellFormed st) → ¬ T (grantsFine grants) → ReaderGives batch grants st 2 0
-  -- 3 to 9, "words from the front": "the header", "the setting", "the word"
+  -- 3 to 9, A3 "the words from the front": place p is Y3 "the header", Y4 "the header", Y5 "the setting", else Y6 "the word"
   at-word : {r p : ℕ} → T (wellFormed st) → T (grantsFine grants) → p < length batch → NoneBefore (termsOf grants) batch p
       → GivenAt (termsOf grants) batch p r → ReaderGives batch grants st r p
-  -- "the batch ends inside a packet": "batch length"
+  -- Y10 "the batch is over before a packet is | the length of the batch"; A3 "10 is last"
   ends-inside : T (wellFormed st) → T (grantsFine grants) → NoneBefore (termsOf grants) batch (length batch)
       → 0 < positionAt batch (length batch) .left → ReaderGives batch grants st 10 (length batch)
-  -- "success, with place the batch length"
+  -- Y0 "all is done | reader: the length of the batch"
   accepted : T (wellFormed st) → T (grantsFine grants) → NoneBefore (termsOf grants) batch (length batch)
       → positionAt batch (length batch) .left ≡ 0 → ReaderGives batch grants st 0 (length batch)
 
 -- ---- the writer, given room for so many words
 
--- a value that 7, 8 and 9 do not refuse in the cell, and that is no "3D value of 2^24 or more"
+-- not Y12 "a value that 7, 8 or 9 would refuse, or a 3D value not below 2^24"
 pub record MayHold (g : Terms) (c : Cell) (v : ℕ) : Type 0 where
   pub narrow : v < 2 ^ registerAt c .width
   pub fits : Fits g (registerAt c) v
@@ -92,25 +93,25 @@ pub record MayHold (g : Terms) (c : Cell) (v : ℕ) : Type 0 where
 abbrev pub CellFine : Terms → List ℕ → Cell → Type 0
 CellFine g st c = 0 < markAt st c → MayHold g c (valueAt st c)
 
--- for state and grants as they were handed in
+-- Y1, Y2, Y12, Y11 and Y0 of the writer, for state and grants as they were handed in
 pub data WriterGives (st grants : List ℕ) (room : ℕ) : ℕ → ℕ → Type 0 where
   bad-state : ¬ T (wellFormed st) → WriterGives st grants room 1 0
   bad-grants : T (wellFormed st) → ¬ T (grantsFine grants) → WriterGives st grants room 2 0
-  -- "lowest such cell"
+  -- Y12 "the lowest such cell"
   not-writable : {c : ℕ} → T (wellFormed st) → T (grantsFine grants) → c < cells → ¬ CellFine (termsOf grants) st (cell c)
       → ((d : ℕ) → d < c → CellFine (termsOf grants) st (cell d)) → WriterGives st grants room 12 c
-  -- "output shorter than needed"
+  -- Y11 "the output is shorter than they need | 0"; A4 "The writer gives 12 before 11"
   no-room : T (wellFormed st) → T (grantsFine grants) → ((c : ℕ) → c < cells → CellFine (termsOf grants) st (cell c))
       → room < length (written st) → WriterGives st grants room 11 0
-  -- "success, with place .. words written"
+  -- Y0 "writer: the words written"
   done : T (wellFormed st) → T (grantsFine grants) → ((c : ℕ) → c < cells → CellFine (termsOf grants) st (cell c))
       → length (written st) ≤ room → WriterGives st grants room 0 (length (written st))
 
 -- ---- the lister, given room for so many bytes
 
--- for the state as it was handed in
+-- Y1, Y11 and Y0 of the lister, for the state as it was handed in
 pub data ListerGives (st : List ℕ) (room : ℕ) : ℕ → ℕ → Type 0 where
   bad-state : ¬ T (wellFormed st) → ListerGives st room 1 0
   no-room : T (wellFormed st) → room < length (listing st) → ListerGives st room 11 0
-  -- "success, with place .. bytes written"
+  -- Y0 "lister: the bytes written"
   done : T (wellFormed st) → length (listing st) ≤ room → ListerGives st room 0 (length (listing st))

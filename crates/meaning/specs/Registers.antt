@@ -1,4 +1,4 @@
--- 2. The 101 registers: document 01's table, column by column, and the format bytes.
+-- The 101 registers: the table of docs/RULES.md, column by column, and the format bytes.
 -- Assumes nothing.
 use mathlib.Core.Bool.{Bool, true, false, not, _&&_, _||_, cond}
 use mathlib.Core.List.{List, [], _∷_, _++_, map}
@@ -13,14 +13,15 @@ use Rattle.meaning.specs.declared.Found.{Found}
 use Rattle.meaning.specs.declared.Found.the-variants.{At, Missing}
 use Rattle.meaning.specs.Words.{bits}
 
--- "The 101 registers"
+-- R18 "There are 101 registers."
 abbrev pub cells : ℕ
 cells = 101
 
--- of which the video registers have those from 84 on, to before 101
+-- R9 "84, 85 | 2208, 220C": the video registers have the cells from 84 on,
 abbrev pub firstVideo : ℕ
 firstVideo = 84
 
+-- R17 "94 to 100 | 33E4 to 33FC": to before 101
 abbrev pub endVideo : ℕ
 endVideo = 101
 
@@ -30,7 +31,8 @@ cell n = record { 0 = n }
 
 -- ---- format bytes
 
--- "Format bytes are bits 23:19, then 18:16": a five-bit code, the three-bit codes that go with it, and bytes per pixel
+-- F1 "a code of five bits in 23:19, and one of three bits in 18:16": a code of the first kind, those of the second that go with it, and
+-- bytes per pixel
 pub record Format : Type 0 where
   pub code : ℕ
   pub with : List ℕ
@@ -40,33 +42,40 @@ pub record Format : Type 0 where
 abbrev pub format : ℕ → List ℕ → ℕ → Format
 format c w b = record { code = c; with = w; bytes = b }
 
--- "Permitted: 00010 with 5, 6; 00110 with 0; .."
+-- the rows of the permitted ones; F9 "No other format byte is permitted: 39 are."
 unfoldable pub formats : List Format
 formats =
+    -- F2 "00010 | 5, 6 | 2"
     format 0b00010 (5 ∷ 6 ∷ []) 2
+    -- F3 "00110 | 0 | 2"
     ∷ format 0b00110 (0 ∷ []) 2
+    -- F4 "10001, 10101, 11001, 11100 | 0, 1, 2, 3, 5 | 2"
     ∷ format 0b10001 (0 ∷ 1 ∷ 2 ∷ 3 ∷ 5 ∷ []) 2
     ∷ format 0b10101 (0 ∷ 1 ∷ 2 ∷ 3 ∷ 5 ∷ []) 2
     ∷ format 0b11001 (0 ∷ 1 ∷ 2 ∷ 3 ∷ 5 ∷ []) 2
     ∷ format 0b11100 (0 ∷ 1 ∷ 2 ∷ 3 ∷ 5 ∷ []) 2
+    -- F5 "10011, 11011, 11101 | 0, 1, 2 | 4"
     ∷ format 0b10011 (0 ∷ 1 ∷ 2 ∷ []) 4
     ∷ format 0b11011 (0 ∷ 1 ∷ 2 ∷ []) 4
     ∷ format 0b11101 (0 ∷ 1 ∷ 2 ∷ []) 4
+    -- F6 "10111 | 0, 1, 2, 3 | 4"
     ∷ format 0b10111 (0 ∷ 1 ∷ 2 ∷ 3 ∷ []) 4
+    -- F7 "11110 | 0 | 2"
     ∷ format 0b11110 (0 ∷ []) 2
+    -- F8 "11110 | 4, 5 | 4"
     ∷ format 0b11110 (4 ∷ 5 ∷ []) 4
     ∷ []
 
--- the first row that has the byte
+-- bytes per pixel by the first row that has the byte; 0 where none has it
 unfoldable pub bytesAmong : List Format → ℕ → ℕ
 bytesAmong [] b = 0
 bytesAmong (f ∷ fs) b = let more = bytesAmong fs b in cond (eqb (bits 7 3 b) (f .code) && oneOf (bits 2 0 b) (f .with)) (f .bytes) more
 
--- bytes per pixel of a format byte, "0 where reserved"
+-- F10 "the bytes per pixel, and 0 where the byte is reserved": of a format byte
 unfoldable pub bytesPerPixel : ℕ → ℕ
 bytesPerPixel b = bytesAmong formats b
 
--- "a constant table of 256 entries gives bytes per pixel": a line for each five-bit code
+-- F10 "For each of the 256 format bytes a constant table has the bytes per pixel": a line for each code of five bits
 unfoldable pub formatTable : List ℕ
 formatTable = join (
     (0 ∷ 0 ∷ 0 ∷ 0 ∷ 0 ∷ 0 ∷ 0 ∷ 0 ∷ [])
@@ -104,33 +113,34 @@ formatTable = join (
     ∷ []
     )
 
--- ---- the column "Values", each rule under the manual's word for its fields
+-- ---- the column Values, each rule under the maker's word for its fields; R23 "all else in that column is a value rule"
 
--- "any"
+-- R5 "any"
 abbrev pub any : ℕ → Bool
 any v = true
 
--- "bits 22:12 and 10:0 each at most 1024"
+-- R1 "bits 22:12 and bits 10:0 are each at most 1024"
 unfoldable pub alphaConstants : ℕ → Bool
 alphaConstants v = leb (bits 22 12 v) 1024 && leb (bits 10 0 v) 1024
 
--- "bits 21:20 are 0"
+-- R3 "bits 21:20 are 0"; R24 "By house choice, where the maker's guide allows more, location fields .. are 0"
 unfoldable pub location : ℕ → Bool
 location v = eqb (bits 21 20 v) 0
 
--- "bits 23:16 a format byte below"
+-- R4 "bits 23:16 are a permitted format byte"
 unfoldable pub formatByte : ℕ → Bool
 formatByte v = ltb 0 (bytesPerPixel (bits 23 16 v))
 
--- "bits 11:6 and 5:0 each at most 11"
+-- R6 "bits 11:6 and bits 5:0 are each at most 11"
 unfoldable pub levels : ℕ → Bool
 levels v = leb (bits 11 6 v) 11 && leb (bits 5 0 v) 11
 
--- "if 15:13 or 9:7 is 2, both are"
+-- R7 "bits 15:13 and bits 9:7 are both 2 or neither is": if one is 2, both are
 abbrev pub bothTwo : ℕ → ℕ → Bool
 bothTwo x y = implies (eqb x 2 || eqb y 2) (eqb x 2 && eqb y 2)
 
--- "20:16 at most 16; 15:13, 12:10, 9:7, 6:4 each at most 3; 3:0 one of 0, 1, 2, 4; .."
+-- R7 "bits 20:16 are at most 16; bits 15:13, 12:10, 9:7 and 6:4 are each at most 3; bits 3:0 are 0, 1, 2 or 4; bits 15:13 and bits 9:7 are
+-- both 2 or neither is"
 unfoldable pub filters : ℕ → Bool
 filters v =
     leb (bits 20 16 v) 16
@@ -141,11 +151,11 @@ filters v =
     && (oneOf (bits 3 0 v) (0 ∷ 1 ∷ 2 ∷ 4 ∷ [])
     && bothTwo (bits 15 13 v) (bits 9 7 v))))))
 
--- "0 to 3 or 7"
+-- R8 "0, 1, 2, 3 or 7"
 abbrev pub mappingCode : ℕ → Bool
 mappingCode x = leb x 3 || eqb x 7
 
--- "21:19 and 18:16 each at most 1; 8:6, 5:3, 2:0 each 0 to 3 or 7"
+-- R8 "bits 21:19 and bits 18:16 are each at most 1; bits 8:6, 5:3 and 2:0 are each 0, 1, 2, 3 or 7"
 unfoldable pub mapping : ℕ → Bool
 mapping v =
     leb (bits 21 19 v) 1
@@ -154,30 +164,30 @@ mapping v =
     && (mappingCode (bits 5 3 v)
     && mappingCode (bits 2 0 v))))
 
--- "bits 1:0 not 3"
+-- R10 "bits 1:0 are not 3"
 unfoldable pub alphaSelect : ℕ → Bool
 alphaSelect v = not (eqb (bits 1 0 v) 3)
 
--- "bits 1:0 are 0"
+-- R13 "bits 1:0 are 0", R14 "bits 1:0 are 0"
 unfoldable pub memoryLocation : ℕ → Bool
 memoryLocation v = eqb (bits 1 0 v) 0
 
--- ---- the addresses of that column
+-- ---- the addresses of that column; R23 "An address in the column Values has to be granted to its role"
 
 -- what a value holds: no address, or an address of a role
 pub data Content : Type 0 where
   nothing : Content
   address : ℕ → ℕ → Content
 
--- "any", or a rule that speaks of no address
+-- R5 "any", or a rule that speaks of no address
 abbrev pub noAddress : ℕ → Content
 noAddress v = nothing
 
--- "data × 256 is a role 1 address"
+-- R2 "the data × 256 is an address of role 1"
 abbrev pub target : ℕ → Content
 target v = address 1 (v * 256)
 
--- "A scaler address is bits 28:4 kept in place, the rest 0"
+-- R22 "The address in a scaler's register is made of bits 28:4 where they stand, all other bits 0"
 abbrev pub scaled : ℕ → ℕ → Content
 scaled role v = address role (bits 28 4 v * 16)
 
@@ -211,78 +221,98 @@ pub data Section : Type 0 where
   of3D : Group → Section
   ofVideo : List (Row VideoOffset) → Section
 
--- a row: cell, name, must be clear, values, address. "A 3D value is the 24 data bits"
+-- a row: cell, name, must be clear, values, address. S5 "A parameter writes its 24 bits of data"
 abbrev pub row3D : ℕ → ℕ → ℕ → (ℕ → Bool) → (ℕ → Content) → Row SubAddress
 row3D c a m f h = record { cell = cell c; name = record { 0 = a }; register = record { width = 24; clear = m; values = f; holds = h } }
 
--- a video value is a word
+-- the same; S5 "a word of a video packet writes all its 32 bits"
 abbrev pub rowVideo : ℕ → ℕ → ℕ → (ℕ → Bool) → (ℕ → Content) → Row VideoOffset
 rowVideo c o m f h = record { cell = cell c; name = record { 0 = o }; register = record { width = 32; clear = m; values = f; holds = h } }
 
--- 0 to 3: 01.00.3F, .50, .51, .52
+-- cells 0 to 3: type 01h, sub-type 00h
 unfoldable pub targetGroup : Group
 targetGroup = group 0x01 0x00 (
+    -- R1 "0 | 01.00.3F | 800800h"
     row3D 0 0x3F 0x800800 alphaConstants noAddress
+    -- R2 "1 | 01.00.50 | none"
     ∷ row3D 1 0x50 0 any target
+    -- R3 "2 | 01.00.51 | 0FFFFFh"
     ∷ row3D 2 0x51 0x0FFFFF location noAddress
+    -- R4 "3 | 01.00.52 | 006FFFh"
     ∷ row3D 3 0x52 0x006FFF formatByte noAddress
     ∷ []
     )
 
--- 4+2n, 5+2n: 02.0n.50, .51
+-- stage n: type 02h, sub-type n
 unfoldable pub stage : ℕ → Group
 stage n = group 0x02 (0x00 + n) (
+    -- R5 "4+2n, 5+2n | 02.0n.50, 02.0n.51 | FF0000h | any"
     row3D (4 + 2 * n) 0x50 0xFF0000 any noAddress
+    -- R5 "02.0n.51 | FF0000h | any"
     ∷ row3D (5 + 2 * n) 0x51 0xFF0000 any noAddress
     ∷ []
     )
 
--- 36+3n, 37+3n, 38+3n: 02.2n.30, .31, .32
+-- sample n: type 02h, R19 "sub-type 20h + n"
 unfoldable pub sample : ℕ → Group
 sample n = group 0x02 (0x20 + n) (
+    -- R6 "36+3n | 02.2n.30 | C00000h"
     row3D (36 + 3 * n) 0x30 0xC00000 levels noAddress
+    -- R7 "37+3n | 02.2n.31 | E00000h"
     ∷ row3D (37 + 3 * n) 0x31 0xE00000 filters noAddress
+    -- R8 "38+3n | 02.2n.32 | C0FE00h"
     ∷ row3D (38 + 3 * n) 0x32 0xC0FE00 mapping noAddress
     ∷ []
     )
 
--- a scaler's seven registers: cells from c on, and the role of its addresses. 87 to 93 are 23E4, 23E8, 23EC, 23F0, 23F4, 23F8,
--- 23FC, of role 2; 94 to 100 are "33E4 to 33FC", "as 87 to 93, role 3"
+-- a scaler's seven registers: cells from c on, offsets above o, and the role of its addresses. The rows are those of the first scaler, with
+-- c 87, o 2000h and role 2; R17 "94 to 100 | 33E4 to 33FC | as 87 to 93 | as 87 to 93, with role 3": c 94, o 3000h
 unfoldable pub scaler : ℕ → ℕ → ℕ → List (Row VideoOffset)
 scaler c o role =
+    -- R11 "87 | 23E4 | 76FFE0FEh | any"
     rowVideo c (o + 0x3E4) 0x76FFE0FE any noAddress
+    -- R12 "88 | 23E8 | 6FFE0000h | any"
     ∷ rowVideo (c + 1) (o + 0x3E8) 0x6FFE0000 any noAddress
+    -- R13 "89 | 23EC | 2000000Ch | bits 1:0 are 0; bits 28:4 are an address of role 2"
     ∷ rowVideo (c + 2) (o + 0x3EC) 0x2000000C memoryLocation (scaled role)
+    -- R14 "90, 93 | 23F0, 23FC | E000000Ch | bits 1:0 are 0; bits 28:4 are an address of role 2"
     ∷ rowVideo (c + 3) (o + 0x3F0) 0xE000000C memoryLocation (scaled role)
+    -- R15 "91 | 23F4 | FFFFC00Fh | any"
     ∷ rowVideo (c + 4) (o + 0x3F4) 0xFFFFC00F any noAddress
+    -- R16 "92 | 23F8 | 0DECC00Fh | any"
     ∷ rowVideo (c + 5) (o + 0x3F8) 0x0DECC00F any noAddress
+    -- R14 "23FC | E000000Ch | bits 1:0 are 0; bits 28:4 are an address of role 2"
     ∷ rowVideo (c + 6) (o + 0x3FC) 0xE000000C memoryLocation (scaled role)
     ∷ []
 
--- 84 to 86: 2208, 220C, 2210. "The regulator's copy of a video register is 2000h above the original; the second HQV is another 1000h up"
+-- cells 84 to 86. B11 "The offset of a video register is that of its copy in the command regulator, 2000h above the original"
 unfoldable pub overlay : List (Row VideoOffset)
 overlay =
+    -- R9 "84, 85 | 2208, 220C | F800F800h | any"
     rowVideo 84 0x2208 0xF800F800 any noAddress
+    -- R9 "220C | F800F800h | any"
     ∷ rowVideo 85 0x220C 0xF800F800 any noAddress
+    -- R10 "86 | 2210 | FFE000FCh"
     ∷ rowVideo 86 0x2210 0xFFE000FC alphaSelect noAddress
     ∷ []
 
--- stage n, and sample n, as sections
+-- stage n as a section,
 abbrev pub stageSection : ℕ → Section
 stageSection n = of3D (stage n)
 
+-- and sample n
 abbrev pub sampleSection : ℕ → Section
 sampleSection n = of3D (sample n)
 
--- the groups of 01 and 02; "n is 0 to 15"
+-- the groups of 01 and 02; R18 "n runs from 0 to 15"
 abbrev pub sections3D : List Section
 sections3D = of3D targetGroup ∷ (map stageSection (from 0 16) ++ map sampleSection (from 0 16))
 
--- the rows of video registers
+-- the rows of video registers; B11 "2000h above the original; the second HQV's is 1000h above that"
 abbrev pub sectionsVideo : List Section
 sectionsVideo = ofVideo overlay ∷ ofVideo (scaler 87 0x2000 2) ∷ ofVideo (scaler 94 0x3000 3) ∷ []
 
--- THE TABLE, in cell order
+-- THE TABLE: R18 "the cells are numbered from 0 as the table has them"
 unfoldable pub sections : List Section
 sections = sections3D ++ sectionsVideo
 
@@ -306,7 +336,7 @@ findAmong t u a (of3D g ∷ ss) =
     cond (eqb t (g .type) && eqb u (g .subType)) (find (λ n. eqb (a .0) (n .0)) (g .rows)) more
 findAmong t u a (ofVideo rs ∷ ss) = findAmong t u a ss
 
--- "Type, sub-type and sub-address together name a 3D register"
+-- R19 "The name of a 3D register is its type, its sub-type and its sub-address, all three"
 unfoldable pub find3D : ℕ → ℕ → SubAddress → Found
 find3D t u a = findAmong t u a sections
 
@@ -321,7 +351,7 @@ findOffset o [] = Missing
 findOffset o (of3D g ∷ ss) = findOffset o ss
 findOffset o (ofVideo rs ∷ ss) = let more = findOffset o ss in firstFound (find (λ n. eqb (o .0) (n .0)) rs) more
 
--- a video register is named by its offset
+-- R20 "The name of a video register is its offset."
 unfoldable pub findVideo : VideoOffset → Found
 findVideo o = findOffset o sections
 

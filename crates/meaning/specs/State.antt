@@ -1,4 +1,4 @@
--- 5. The register state, and what the packets of a batch write into it.
+-- The register state, and what the packets of a batch write into it.
 -- Assumes nothing.
 use mathlib.Core.Path.{_≡_}
 use mathlib.Core.Bool.{Bool, true, false, _&&_}
@@ -19,11 +19,11 @@ use Rattle.meaning.specs.Batch.{offset3D, named, Cut}
 
 -- ---- states
 
--- "101 values, then 101 marks"
+-- S1 "the values of the 101 cells, then their 101 marks"
 abbrev pub cellWords : ℕ
 cellWords = 2 * cells
 
--- "A state is 202 words": nothing stands behind the marks
+-- S1 "A state is 202 words": nothing stands behind the marks
 abbrev pub stateWords : ℕ
 stateWords = cellWords
 
@@ -44,15 +44,15 @@ isMark (suc m) = true
 abbrev pub marked : List ℕ → Cell → Bool
 marked st c = isMark (markAt st c)
 
--- "each mark is 0 or 1 and an unmarked value is 0"
+-- S2 "each mark is 0 or 1, and each value whose mark is 0 is 0 itself": of a cell
 unfoldable pub cellFormed : List ℕ → Cell → Bool
 cellFormed st c = leb (markAt st c) 1 && implies (eqb (markAt st c) 0) (eqb (valueAt st c) 0)
 
--- "Well-formed": 202 words, and each cell is
+-- S2 "It is well-formed": 202 words, and each cell is as it must be
 unfoldable pub wellFormed : List ℕ → Bool
 wellFormed st = eqb (length st) stateWords && every (λ n. cellFormed st (cell n)) (from 0 cells)
 
--- "Empty: all 0"
+-- S3 "Every word of the empty state is 0."
 unfoldable pub empty : List ℕ
 empty = replicate stateWords 0
 
@@ -79,11 +79,11 @@ pub record Write : Type 0 where
   pub cell : Cell
   pub value : ℕ
 
--- a write sets the cell's value and marks it
+-- S4 "A write puts a value into a cell and sets the cell's mark to 1."
 unfoldable pub apply : List ℕ → Write → List ℕ
 apply st w = set (set st (w .cell .0) (w .value)) (cells + w .cell .0) 1
 
--- "its writes, taken one after another": "the last write holds"
+-- S6 "A batch's writes are made one after another. .. the last write holds."
 unfoldable pub applyAll : List ℕ → List Write → List ℕ
 applyAll st [] = st
 applyAll st (w ∷ ws) = applyAll (apply st w) ws
@@ -95,12 +95,12 @@ abbrev pub writeTo : Found → ℕ → List Write
 writeTo (At c) v = record { cell = c; value = v } ∷ []
 writeTo Missing v = []
 
--- "A 3D value is the 24 data bits"
+-- S5 "A parameter writes its 24 bits of data": of the parameters under a setting
 unfoldable pub writes3D : ℕ → List ℕ → List Write
 writes3D s [] = []
 writes3D s (p ∷ ps) = writeTo (named s p) (data24 p) ++ writes3D s ps
 
--- a word for each register of the run
+-- S5 "a word of a video packet writes all its 32 bits": of a run
 unfoldable pub writesRun : VideoOffset → List ℕ → List Write
 writesRun o [] = []
 writesRun o (v ∷ vs) = writeTo (findVideo o) v ++ writesRun (following o) vs
@@ -116,7 +116,7 @@ unfoldable pub packetWrites : List ℕ → List Write
 packetWrites [] = []
 packetWrites (h ∷ t) = bodyWrites (eqb (offset h) offset3D) (videoOffset h) t
 
--- of packets, one after another
+-- of packets, D2 "its writes .. one after another"
 unfoldable pub allWrites : List (List ℕ) → List Write
 allWrites [] = []
 allWrites (p ∷ ps) = packetWrites p ++ allWrites ps
@@ -129,7 +129,7 @@ pub record Takes (g : Terms) (ws st : List ℕ) : Type 0 where
   pub cut : Cut g ws
   pub leaves : applyAll empty (allWrites (cut .packets)) ≡ st
 
--- "each state that some batch reaches from empty"
+-- D2 "some batch leads from the empty state to a state"
 pub record Reached (g : Terms) (st : List ℕ) : Type 0 where
   pub batch : List ℕ
   pub takes : Takes g batch st

@@ -1,11 +1,12 @@
--- 7. Writing: the exact words, and what the writer answers.
+-- Writing: the exact words, and what the writer answers.
+-- P2 "The writer takes a state and a grant list, and makes a batch of the state."
 -- Assumes nothing.
 use mathlib.Core.Bool.{Bool, true, false, _&&_, cond}
 use mathlib.Core.List.{List, [], _∷_, _++_}
 use Prim.Native.Nat.{ℕ, zero, suc, _+_, _*_, _^_}
 use lib.Dec.{leb, ltb, eqb}
 use lib.ListN.{length}
-use Rattle.laws.specs.Lists.{join, over}
+use Rattle.laws.specs.Lists.{join}
 use Rattle.laws.specs.Tests.{implies}
 use Rattle.meaning.specs.declared.Cell.{Cell}
 use Rattle.meaning.specs.declared.SubAddress.{SubAddress}
@@ -17,16 +18,16 @@ use Rattle.meaning.specs.Registers.{cells, cell, Row, Section, of3D, ofV
 use Rattle.meaning.specs.Grants.{Terms, termsOf, grantsFine}
 use Rattle.meaning.specs.Batch.{offset3D}
 use Rattle.meaning.specs.State.{valueAt, markAt, marked, one, wellFormed}
-use Rattle.meaning.specs.Answers.{badState, badGrants, noRoom, notWritable, success, answer, provided, settle}
+use Rattle.meaning.specs.Answers.{badState, badGrants, noRoom, notWritable, success, answer, provided}
 use Rattle.meaning.specs.Reader.{valueReason}
 
--- ---- the words: "The writer emits, in cell order, .."
+-- ---- the words: W1 "The writer writes the marked cells, in the order of the cells."
 
--- a header of n words for an offset
+-- a header of n words for an offset, as B2 has it
 abbrev pub headerWord : ℕ → ℕ → ℕ
 headerWord n o = n * 2 ^ 16 + o
 
--- the setting of a type and sub-type; HParaAdr and HParaOS are 0
+-- the setting of a type and sub-type, as B5 has it; HParaAdr and HParaOS are 0
 abbrev pub settingWord : ℕ → ℕ → ℕ
 settingWord t u = u * 2 ^ 24 + t * 2 ^ 16
 
@@ -35,17 +36,17 @@ abbrev pub ifSo {ℓ} : {A : Type ℓ} → Bool → A → List A → List A
 ifSo true x xs = x ∷ xs
 ifSo false x xs = xs
 
--- "parameters ascending": of the chosen cells among a group's rows
+-- W2 "their parameters in ascending order": of the chosen cells among a group's rows
 unfoldable pub parameters : (Cell → Bool) → List ℕ → List (Row SubAddress) → List ℕ
 parameters chosen st [] = []
 parameters chosen st (r ∷ rs) = ifSo (chosen (r .cell)) (r .name .0 * 2 ^ 24 + valueAt st (r .cell)) (parameters chosen st rs)
 
--- "one 3D packet for each type and sub-type with a marked cell": none for a group without a parameter
+-- W2 "The marked cells of one type and sub-type become one 3D packet .. without a marked cell there is no packet."
 abbrev pub packet3DOf : ℕ → List ℕ → List (List ℕ)
 packet3DOf s [] = []
 packet3DOf s (p ∷ ps) = (headerWord (length (s ∷ p ∷ ps)) offset3D ∷ s ∷ p ∷ ps) ∷ []
 
--- "and one packet of n = 1 for each marked video cell"
+-- W3 "Each marked video cell becomes a packet with n = 1."
 unfoldable pub packetsVideo : (Cell → Bool) → List ℕ → List (Row VideoOffset) → List (List ℕ)
 packetsVideo chosen st [] = []
 packetsVideo chosen st (r ∷ rs) =
@@ -61,7 +62,7 @@ unfoldable pub packetsAmong : (Cell → Bool) → List ℕ → List Section → 
 packetsAmong chosen st [] = []
 packetsAmong chosen st (s ∷ ss) = packetsIn chosen st s ++ packetsAmong chosen st ss
 
--- the words for a chosen set of cells of a state, "in cell order"
+-- the words for a chosen set of cells of a state, W1 "in the order of the cells"
 unfoldable pub wordsFor : (Cell → Bool) → List ℕ → List ℕ
 wordsFor chosen st = join (packetsAmong chosen st sections)
 
@@ -69,13 +70,13 @@ wordsFor chosen st = join (packetsAmong chosen st sections)
 unfoldable pub packetsOf : List ℕ → List (List ℕ)
 packetsOf st = packetsAmong (marked st) st sections
 
--- the words that are written
+-- the words that are written, W1 "The writer writes the marked cells"
 unfoldable pub written : List ℕ → List ℕ
 written st = wordsFor (marked st) st
 
 -- ---- how many words they are
 
--- "It needs at most 184 words"
+-- W4 "No state needs more than 184 words."
 abbrev pub mostWritten : ℕ
 mostWritten = 184
 
@@ -103,33 +104,30 @@ needAmong chosen (s ∷ ss) = needIn chosen s + needAmong chosen ss
 unfoldable pub needFor : (Cell → Bool) → ℕ
 needFor chosen = needAmong chosen sections
 
--- ---- 12: "a marked cell holds a value that 7, 8 or 9 would refuse, or a 3D value of 2^24 or more"
+-- ---- 12
 
--- a cell is unmarked, or its value is none of these
+-- a cell is not what Y12 "a marked cell has a value that 7, 8 or 9 would refuse, or a 3D value not below 2^24" says
 unfoldable pub writable : Terms → List ℕ → Cell → Bool
 writable g st c =
     implies (ltb 0 (markAt st c)) (ltb (valueAt st c) (2 ^ registerAt c .width) && eqb (valueReason g (registerAt c) (valueAt st c)) success)
 
--- "lowest such cell", among n cells from number i on
+-- Y12 "the lowest such cell", among n cells from number i on
 unfoldable pub lowestBad : Terms → List ℕ → ℕ → ℕ → Found
 lowestBad g st i zero = Missing
 lowestBad g st i (suc n) = let more = lowestBad g st (suc i) n in cond (writable g st (cell i)) more (At (cell i))
 
--- ---- the call: "1, 2; .. writer 12 then 11"
+-- ---- the call
 
 -- a bad cell is the answer; where there is none, what comes after
 abbrev pub exceptAt : Found → Answer → Answer
 exceptAt (At c) a = answer notWritable (c .0)
 exceptAt Missing a = a
 
--- the answer, given room for so many words
+-- A2 "1 before 2, and 2 before all others", A4 "The writer gives 12 before 11": the answer, given room for so many words;
+-- Y11 "the output is shorter than they need", Y0 "writer: the words written"
 unfoldable pub writeAnswer : List ℕ → List ℕ → ℕ → Answer
 writeAnswer st grants room =
     provided (wellFormed st) badState
     (provided (grantsFine grants) badGrants
     (exceptAt (lowestBad (termsOf grants) st 0 cells)
     (provided (leb (length (written st)) room) noRoom (answer success (length (written st))))))
-
--- the output after the call: "words past its end stay as they were"
-unfoldable pub writeLeaves : List ℕ → List ℕ → List ℕ → List ℕ
-writeLeaves st grants out = settle (writeAnswer st grants (length out)) (over (written st) out) out

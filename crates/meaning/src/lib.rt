@@ -54,7 +54,7 @@ pub const NOT_WRITABLE: u32 = 12;
 // And the one that the C calls answer by themselves, as the number that they answer: place 0.
 pub const BAD_BUFFER: u64 = 13;
 
-// The three kinds of number that must not be exchanged: a cell of the state,
+// R21 "three kinds of number, and no code may be able to exchange them": a cell of the state,
 pub struct Cell(pub usize);
 
 // the sub-address of a parameter,

@@ -29,7 +29,7 @@ packetFrom g i (h ∷ ws) st = upTo (suc i + count h) (headed g i h (take (count
 
 -- ---- packets
 
--- so many words are missing at the end: "the batch ends inside a packet", or it does not
+-- so many words are missing at the end: Y10 "the batch is over before a packet is", or it is not
 abbrev pub ends : ℕ → ℕ → List ℕ → Passed
 ends zero i st = passed success i st
 ends (suc k) i st = passed endsInside i st

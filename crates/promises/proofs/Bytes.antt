@@ -8,12 +8,12 @@ use native.Mathlib.Omega.{arith}
 use borrow.Author.Tests.{eqb-true}
 use lib.Dec.{eqb}
 use Rattle.laws.specs.Lists.{All, over}
-use Rattle.meaning.specs.Words.{Word, wordsOf, bytesOf}
+use Rattle.meaning.specs.Words.{Byte, Word, wordsOf, bytesOf}
 use Rattle.meaning.specs.Grants.{termsOf}
 use Rattle.meaning.specs.Answers.{success, settle}
 use Rattle.meaning.specs.Reader.{readAnswer, readLeaves}
 use Rattle.meaning.proofs.Exactly.{accepted-cut}
-use Rattle.meaning.proofs.Exported.{Byte, words-small, left-small, words-over}
+use Rattle.meaning.proofs.Exported.{words-small, left-small, words-over}
 use Rattle.irangelda.proofs.Buffers.{over-all, length-leaves}
 
 -- the bytes of words are bytes

@@ -1,3 +1,6 @@
+pub mod AsksNothing
 pub mod Bytes
+pub mod Driver
 pub mod OneAnswer
 pub mod Promises
+pub mod Switches

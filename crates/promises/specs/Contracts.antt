@@ -7,10 +7,10 @@ use mathlib.Core.Bool.{_&&_}
 use mathlib.Core.List.{List, [], _∷_}
 use Prim.Native.Nat.{ℕ, _/_, _%_}
 use lib.Dec.{T}
-use lib.ListN.{length}
-use Rattle.laws.specs.Lists.{every, over}
+use lib.ListN.{length, replicate}
+use Rattle.laws.specs.Lists.{All, every, over}
 use Rattle.meaning.specs.declared.Answer.{Answer}
-use Rattle.meaning.specs.Words.{wordsOf, bytesOf}
+use Rattle.meaning.specs.Words.{Byte, wordsOf, bytesOf}
 use Rattle.meaning.specs.Answers.{numberOf, settle}
 use Rattle.meaning.specs.Reader.{readAnswer, readLeaves}
 use Rattle.meaning.specs.Writer.{written, writeAnswer}
@@ -47,7 +47,8 @@ WritingBytes st grants out n left = (n ≡ numberOf (exportedWrite st grants out
 abbrev pub ListingBytes : List ℕ → List ℕ → ℕ → List ℕ → Type 0
 ListingBytes st out n left = (n ≡ numberOf (exportedList st out)) × (left ≡ exportedListLeaves st out)
 
--- what 13 lets through: no "buffer over 65,536 bytes", no "word buffer not a multiple of 4". The buffers of reader and writer are words,
+-- what 13 lets through: not Y13 "a buffer has more than 65,536 bytes, or a buffer of words has a length that is no multiple of 4". The
+-- buffers of reader and writer are words,
 abbrev pub WordBuffers : List ℕ → List ℕ → List ℕ → Type 0
 WordBuffers a b c = T (every wordBufferFine (a ∷ b ∷ c ∷ []))
 
@@ -55,10 +56,22 @@ WordBuffers a b c = T (every wordBufferFine (a ∷ b ∷ c ∷ []))
 abbrev pub ListerBuffers : List ℕ → List ℕ → Type 0
 ListerBuffers st out = T (wordBufferFine st && bufferFine out)
 
--- "the answer is one number, place × 256 + reason": its reason and its place are those of a
+-- C3 "A C call answers one number: place × 256 + reason.": its reason and its place are those of a
 abbrev pub Tells : ℕ → Answer → Type 0
 Tells n a = (n % 256 ≡ a .reason) × (n / 256 ≡ a .place)
 
 -- 13 is told exactly where the buffers are not fine, and then at place 0
 abbrev pub BadBuffer : ℕ → Type 0 → Type 0
 BadBuffer n Fine = ((n % 256 ≡ 13) ↔ (¬ Fine)) × (¬ Fine → n ≡ 13)
+
+-- ---- the calls of one program, one after another
+
+-- the bytes of a state before its first batch
+abbrev pub zeros : List ℕ
+zeros = replicate 808 0
+
+-- irangelda_read accepts each batch under the program's grants, from the bytes that the one before it left; the last one leaves `end`
+pub data Accepting (grants : List ℕ) : List ℕ → List (List ℕ) → List ℕ → Type 0 where
+  no-more : {st : List ℕ} → Accepting grants st [] st
+  and-then : {st end : List ℕ} (b : List ℕ) (bs : List (List ℕ)) (n : ℕ) (left : List ℕ) → All Byte b → ReadingBytes b grants st n left
+      → n % 256 ≡ 0 → Accepting grants left bs end → Accepting grants st (b ∷ bs) end

@@ -111,7 +111,7 @@ module _ (t u : ℕ) (a : SubAddress) where
             ])
       ]
 
-  -- "Type, sub-type and sub-address together name a 3D register"
+  -- R19 "The name of a 3D register is its type, its sub-type and its sub-address, all three"
   pub by-rows : find3D t u a ≡ among a (rowsOf t u)
   unfolding rowsOf
   by-rows =

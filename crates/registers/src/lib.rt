@@ -7,7 +7,7 @@ use meaning::Cell;
 use meaning::SubAddress;
 use meaning::VideoOffset;
 
-// Type, sub-type and sub-address together name a 3D register.
+// R19 "The name of a 3D register is its type, its sub-type and its sub-address, all three".
 pub struct Name {
     pub ty: u32,
     pub sub: u32,

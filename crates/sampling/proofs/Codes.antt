@@ -2,18 +2,13 @@
 -- Assumes nothing.
 use mathlib.Core.Path.{_≡_, refl}
 use mathlib.Core.Bool.{Bool, true, false, not, _&&_}
-use Prim.Native.Nat.{ℕ, suc, _%_, _<_}
-use native.Mathlib.Nat.{le-of-suc-le-suc}
+use Prim.Native.Nat.{ℕ, _%_}
 use native.Mathlib.Omega.{arith}
 use lib.Dec.{leb}
 use borrow.Author.Tests.{le-leb, lt-leb, leb-true}
 use Rattle.laws.specs.Tests.{implies}
 use Rattle.laws.proofs.Arms.{told-true, told-false}
 use Rattle.meaning.specs.Registers.{bothTwo}
-
--- the range `0..=b` tells x < b + 1, and the definition asks x ≤ b
-pub at-most : (x b : ℕ) → x < suc b → leb x b ≡ true
-at-most x b h = le-leb x b (le-of-suc-le-suc h)
 
 -- to imply what is false is to be false
 pub implies-false : (b : Bool) → implies b false ≡ not b

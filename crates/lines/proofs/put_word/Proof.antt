@@ -1,6 +1,6 @@
 -- Four pairs, one behind the other, are the eight digits.
 -- Assumes nothing.
-use mathlib.Core.Path.{refl, _∙_}
+use mathlib.Core.Path.{_∙_}
 use borrow.Author.Needs.{needs}
 use Rattle.lines.proofs.Stores.{place-fits, part-fits}
 use Rattle.lines.proofs.Pieces.{word-pieces}

@@ -1,7 +1,6 @@
 -- `sampling::mapping_code` meets its contract: the range tells the bound, and the key 7 is the other test.
 -- Assumes nothing.
 use Rattle.laws.proofs.Arms.{tests}
-use Rattle.sampling.proofs.Codes.{at-most}
 use Rattle.sampling.proofs.mapping_code.Statement.{statement}
 use Rattle.sampling.proofs.mapping_code.Tie as tie
 
@@ -9,7 +8,7 @@ returns : tie.Need-returns
 returns c = rw (c .match .keys1)
 
 returns-2 : tie.Need-returns-2
-returns-2 c = search (at-most, tests)
+returns-2 c = search tests
 
 returns-3 : tie.Need-returns-3
 returns-3 c = search tests

@@ -1,0 +1,3 @@
+pub mod BothSides
+pub mod House
+pub mod Switch

@@ -1,0 +1,285 @@
+-- A change of programs: what the written words of a state leave on a chip that held another, and what the batches after them keep.
+-- Assumes nothing.
+use mathlib.Core.Path.{_≡_, refl, sym, ap, subst, _∙_}
+use mathlib.Core.Logic.{_↔_}
+use mathlib.Core.List.{List, [], _∷_, _++_}
+use Prim.Native.Nat.{ℕ, _<_}
+use native.Mathlib.Omega.{arith}
+use native.Mathlib.Decide.{ℕ-discrete, decLt}
+use lib.Dec.{T}
+use lib.ListN.{length, take, drop, take-append-drop}
+use Rattle.laws.specs.Lists.{All}
+use Rattle.laws.proofs.Lists.{all-split}
+use Rattle.meaning.specs.Registers.{cells, cell, Content, nothing, address, registerAt}
+use Rattle.meaning.specs.Grants.{grantsOf, termsOf, Terms}
+use Rattle.meaning.specs.Batch.{Cut}
+use Rattle.meaning.specs.State.{stateWords, valueAt, markAt, marked, wellFormed, Write, apply, applyAll, allWrites}
+use Rattle.meaning.specs.Positions.{writesOf}
+use Rattle.meaning.specs.Reader.{readAnswer, readLeaves}
+use Rattle.meaning.specs.Writer.{wordsFor, packetsOf, mostWritten, written, writeAnswer}
+use Rattle.meaning.specs.Fitter.{Inside, Apart, Safe, OfAddress, Stores}
+use Rattle.meaning.proofs.Writes.{writes-of-cut}
+use Rattle.meaning.proofs.Writing.{chosenFrom, written-permitted, written-writes}
+use Rattle.meaning.proofs.States.{Formed, formed-iff, formed-writes, Sound, laid-over, laid-exactly, next-length, value-same, mark-same, value-other, mark-other}
+use Rattle.meaning.proofs.Round.{packets-low, leaves-formed}
+use Rattle.meaning.proofs.Exactly.{accepted-cut}
+use Rattle.meaning.proofs.Outputs.{wrote}
+use Rattle.meaning.proofs.Bytes.{settle-done, settle-refused}
+use Rattle.meaning.proofs.Fitter.{packets-inside, held-inside, safe-held}
+use Rattle.chip.specs.Chip.{contentAt, isAddress, obeys, obeysAll, AllAccepted, leftBy, Marked, Full, Remarked, AddressesRemarked, LaidOver, EachAddress, Turn, Proper, takes, takesAll}
+
+-- ---- writes, one after another
+
+abbrev Low : Write → Type 0
+Low w = w .cell .0 < cells
+
+-- P of the number and the value of each marked cell
+abbrev Each : (ℕ → ℕ → Type 0) → List ℕ → Type 0
+Each P st = (c : ℕ) → c < cells → Marked st c → P c (valueAt st (cell c))
+
+each-write : (P : ℕ → ℕ → Type 0) (st : List ℕ) (w : Write) → Low w → P (w .cell .0) (w .value) → length st ≡ stateWords → Each P st → Each P (apply st w)
+unfolding apply
+each-write P st w l p n h d k m =
+    let c = w .cell .0 in
+    let v = w .value in
+    elim (ℕ-discrete d c) [
+      | yes e ↦ rw (e, value-same st n c v l) p
+      | no e ↦ rw (value-other st n c v l d k e) (h d k (omega (arith, mark-other st n c v l d e)))
+    ]
+
+length-write : (st : List ℕ) (w : Write) → Low w → length st ≡ stateWords → length (apply st w) ≡ stateWords
+unfolding apply
+length-write st w l n = next-length st n (w .cell .0) (w .value) l
+
+length-writes : (st : List ℕ) (ws : List Write) → All Low ws → length st ≡ stateWords → length (applyAll st ws) ≡ stateWords
+unfolding applyAll
+length-writes st [] a n = n
+length-writes st (w ∷ ws) a n = length-writes (apply st w) ws (a .1) (length-write st w (a .0) n)
+
+each-writes : (P : ℕ → ℕ → Type 0) (st : List ℕ) (ws : List Write) → All Low ws → All (λ w. P (w .cell .0) (w .value)) ws → length st ≡ stateWords
+    → Each P st → Each P (applyAll st ws)
+unfolding applyAll
+each-writes P st [] a b n h = h
+each-writes P st (w ∷ ws) a b n h = each-writes P (apply st w) ws (a .1) (b .1) (length-write st w (a .0) n) (each-write P st w (a .0) (b .0) n h)
+
+-- a mark never goes away
+mark-write : (st : List ℕ) (w : Write) → Low w → length st ≡ stateWords → (d : ℕ) → Marked st d → Marked (apply st w) d
+unfolding apply
+mark-write st w l n d m =
+    let c = w .cell .0 in
+    let v = w .value in
+    elim (ℕ-discrete d c) [ yes e ↦ rw e (omega (arith, mark-same st n c v l)) | no e ↦ omega (arith, mark-other st n c v l d e) ]
+
+mark-writes : (st : List ℕ) (ws : List Write) → All Low ws → length st ≡ stateWords → (d : ℕ) → Marked st d → Marked (applyAll st ws) d
+unfolding applyAll
+mark-writes st [] a n d m = m
+mark-writes st (w ∷ ws) a n d m = mark-writes (apply st w) ws (a .1) (length-write st w (a .0) n) d (mark-write st w (a .0) n d m)
+
+-- ---- the chip
+
+-- what the chip does with a permitted batch is what its packets write
+pub obeys-packets : (g : Terms) (chip batch : List ℕ) (c : Cut g batch) → obeys chip batch ≡ applyAll chip (allWrites (c .packets))
+unfolding obeys
+obeys-packets g chip batch c = ap (applyAll chip) (writes-of-cut g batch c)
+
+-- the written words of a state are the writes of its marked cells
+obeys-written : (g : Terms) (chip st : List ℕ) → Sound g st → obeys chip (written st) ≡ applyAll chip (chosenFrom (marked st) st 0 cells)
+unfolding written wordsFor packetsOf
+obeys-written g chip st s =
+    let cut : Cut g (written st) = record { packets = packetsOf st; joined = refl; permitted = written-permitted g st (s .fine) } in
+    obeys-packets g chip (written st) cut ∙ ap (applyAll chip) (written-writes g st (s .fine))
+
+-- an accepted batch does on the chip what the reader does in the books
+pub obeys-reads : (batch grants st : List ℕ) → readAnswer batch grants st .reason ≡ 0 → readLeaves batch grants st ≡ obeys st batch
+unfolding obeys readLeaves
+obeys-reads batch grants st e = settle-done (readAnswer batch grants st) _ st e
+
+-- ---- the law of a switch
+
+-- a: what the chip holds, whoever wrote it; b: the next program's state, which the writer takes
+module _ (a b grants : List ℕ) (room : ℕ) (e : writeAnswer b grants room .reason ≡ 0) where
+  sound : Sound (termsOf grants) b
+  sound = wrote b grants room e .1
+
+  -- from any state of the chip, the written words of b leave b where b is marked, and what was there elsewhere
+  pub switch-lays : length a ≡ stateWords → LaidOver a b (obeys a (written b))
+  switch-lays n =
+      let over = laid-over a b n (sound .formed) in
+      rw (obeys-written (termsOf grants) a b sound)
+      (record { size = over .size; marked = λ c l m. over .done c l l m; unmarked = λ c l h. over .else c l (λ k. h) })
+
+  -- they leave b exactly if every cell that was marked is marked in b
+  pub switch-leaves-nothing : T (wellFormed a) → (obeys a (written b) ≡ b) ↔ Remarked a b
+  switch-leaves-nothing w =
+      let f = formed-iff a .0 w in (
+        λ q c l m. elim (decLt 0 (markAt b (cell c))) [
+          | yes k ↦ k
+          | no k ↦
+              let same : markAt b (cell c) ≡ markAt a (cell c) = ap (λ (x : List ℕ). markAt x (cell c)) (sym q) ∙ switch-lays (f .size) .unmarked c l k .1 in
+              absurd (k (omega arith))
+        ],
+        λ h. obeys-written (termsOf grants) a b sound ∙ laid-exactly a b f (sound .formed) h,
+      )
+
+  -- a state that marks every cell leaves nothing of what was there
+  pub switch-to-full : T (wellFormed a) → Full b → obeys a (written b) ≡ b
+  switch-to-full w full = switch-leaves-nothing w .1 (λ c l m. full c l)
+
+-- ---- batches after it
+
+accepted-low : (batch grants st : List ℕ) → readAnswer batch grants st .reason ≡ 0 → All Low (writesOf batch)
+accepted-low batch grants st e =
+    let c = accepted-cut batch grants st e in
+    rw (writes-of-cut (termsOf grants) batch c) (packets-low (termsOf grants) (c .packets) (c .permitted))
+
+accepted-inside : (grants batch st : List ℕ) → readAnswer batch grants st .reason ≡ 0 → All (Stores (Inside (grantsOf grants))) (writesOf batch)
+accepted-inside grants batch st e =
+    let c = accepted-cut batch grants st e in
+    rw (writes-of-cut (termsOf grants) batch c) (packets-inside (termsOf grants) (c .packets) (c .permitted))
+
+length-obeys : (batch grants st chip : List ℕ) → readAnswer batch grants st .reason ≡ 0 → length chip ≡ stateWords → length (obeys chip batch) ≡ stateWords
+unfolding obeys
+length-obeys batch grants st chip e n = length-writes chip (writesOf batch) (accepted-low batch grants st e) n
+
+length-obeys-all : (grants st chip : List ℕ) (batches : List (List ℕ)) → AllAccepted grants st batches → length chip ≡ stateWords → length (obeysAll chip batches) ≡ stateWords
+unfolding obeysAll
+length-obeys-all grants st chip [] a n = n
+length-obeys-all grants st chip (b ∷ bs) a n =
+    length-obeys-all grants (readLeaves b grants st) (obeys chip b) bs (a .1) (length-obeys b grants st chip (a .0) n)
+
+-- what every accepted write and every marked cell has is kept
+each-obeys : (P : ℕ → ℕ → Type 0) (grants : List ℕ)
+    → ((batch st : List ℕ) → readAnswer batch grants st .reason ≡ 0 → All (λ w. P (w .cell .0) (w .value)) (writesOf batch))
+    → (st chip : List ℕ) (batches : List (List ℕ)) → AllAccepted grants st batches → length chip ≡ stateWords → Each P chip → Each P (obeysAll chip batches)
+unfolding obeysAll obeys
+each-obeys P grants stores st chip [] a n h = h
+each-obeys P grants stores st chip (b ∷ bs) a n h =
+    each-obeys P grants stores (readLeaves b grants st) (obeys chip b) bs (a .1) (length-obeys b grants st chip (a .0) n)
+    (each-writes P chip (writesOf b) (accepted-low b grants st (a .0)) (stores b st (a .0)) n h)
+
+-- the first of what all have
+all-take : {A : Type 0} (P : A → Type 0) (k : ℕ) (xs : List A) → All P xs → All P (take k xs)
+all-take P k xs a = all-split P (take k xs) (drop k xs) (rw (take-append-drop k xs) a) .0
+
+-- a value that holds no address has whatever is asked of its address
+no-address : (Q : ℕ → ℕ → Type 0) (h : Content) → ¬ T (isAddress h) → OfAddress Q h
+no-address Q nothing n = tt
+no-address Q (address role a) n = absurd (n tt)
+
+module _ (a b grants : List ℕ) (room : ℕ) (e : writeAnswer b grants room .reason ≡ 0) (n : length a ≡ stateWords) (r : AddressesRemarked a b) where
+  -- what is kept of a cell and its value: an address in it is one of b's
+  abbrev Lies : ℕ → ℕ → Type 0
+  Lies c v = OfAddress (Inside (grantsOf grants)) (registerAt (cell c) .holds v)
+
+  -- right after the written words of b, every address of the chip is one of b's
+  switched : EachAddress (Inside (grantsOf grants)) (obeys a (written b))
+  switched c l m =
+      let over = switch-lays a b grants room e n in
+      elim (decLt 0 (markAt b (cell c))) [
+        | yes k ↦ subst (Lies c) (sym (over .marked c l k .0)) (held-inside (termsOf grants) (contentAt b c) (sound a b grants room e .fine c l k .fits .granted))
+        | no k ↦
+            let was = over .unmarked c l k in
+            subst (Lies c) (sym (was .0)) (no-address (Inside (grantsOf grants)) (contentAt a c) (λ t. k (r c l (omega (arith, was .1)) t)))
+      ]
+
+  module _ (batches : List (List ℕ)) (all : AllAccepted grants b batches) where
+    -- for any state a of the chip, whatever programs left it: after the written words of b and any batches that are then accepted for b's
+    -- program, every address on the chip lies, with its reach, inside a grant of that program, if the cells of a that hold an address are
+    -- marked in b
+    pub after-a-switch : EachAddress (Inside (grantsOf grants)) (obeysAll (obeys a (written b)) batches)
+    after-a-switch =
+        each-obeys Lies grants (accepted-inside grants) b (obeys a (written b)) batches all (switch-lays a b grants room e n .size) switched
+
+    -- also in the midst of a further batch: after any number of its writes
+    pub amid-a-batch : (batch : List ℕ) → readAnswer batch grants (leftBy grants b batches) .reason ≡ 0 → (k : ℕ)
+        → EachAddress (Inside (grantsOf grants)) (applyAll (obeysAll (obeys a (written b)) batches) (take k (writesOf batch)))
+    amid-a-batch batch ok k =
+        let st = leftBy grants b batches in
+        each-writes Lies (obeysAll (obeys a (written b)) batches) (take k (writesOf batch)) (all-take Low k (writesOf batch) (accepted-low batch grants st ok))
+        (all-take (Stores (Inside (grantsOf grants))) k (writesOf batch) (accepted-inside grants batch st ok))
+        (length-obeys-all grants b (obeys a (written b)) batches all (switch-lays a b grants room e n .size)) after-a-switch
+
+    -- and where no memory is granted to both, it touches nothing that is granted to another program
+    pub after-a-switch-apart : (theirs : List ℕ) → Apart (grantsOf grants) (grantsOf theirs)
+        → EachAddress (Safe (grantsOf grants) (grantsOf theirs)) (obeysAll (obeys a (written b)) batches)
+    after-a-switch-apart theirs apart c l m =
+        safe-held (grantsOf grants) (grantsOf theirs) apart (contentAt (obeysAll (obeys a (written b)) batches) c) (after-a-switch c l m)
+
+-- ---- the chip and the books
+
+same-after : (grants st : List ℕ) (batches : List (List ℕ)) → AllAccepted grants st batches → obeysAll st batches ≡ leftBy grants st batches
+unfolding obeysAll
+same-after grants st [] a = refl
+same-after grants st (b ∷ bs) a = rw (← obeys-reads b grants st (a .0)) (same-after grants (readLeaves b grants st) bs (a .1))
+
+-- if every cell that was marked is marked in b, the chip is then, batch for batch, what the driver keeps for b's program
+pub chip-is-the-state : (a b grants : List ℕ) (room : ℕ) (batches : List (List ℕ)) → T (wellFormed a) → writeAnswer b grants room .reason ≡ 0
+    → Remarked a b → AllAccepted grants b batches → obeysAll (obeys a (written b)) batches ≡ leftBy grants b batches
+chip-is-the-state a b grants room batches w e r all =
+    ap (λ (x : List ℕ). obeysAll x batches) (switch-leaves-nothing a b grants room e w .1 r) ∙ same-after grants b batches all
+
+-- ---- states that mark every cell
+
+-- a mark never goes away, whether a batch is accepted or refused
+pub marks-stay : (batch grants st : List ℕ) → T (wellFormed st) → Remarked st (readLeaves batch grants st)
+unfolding readLeaves obeys
+marks-stay batch grants st w c l m =
+    elim (ℕ-discrete (readAnswer batch grants st .reason) 0) [
+      | yes e ↦ rw (obeys-reads batch grants st e) (mark-writes st (writesOf batch) (accepted-low batch grants st e) (formed-iff st .0 w .size) c m)
+      | no e ↦ rw (settle-refused (readAnswer batch grants st) (applyAll st (writesOf batch)) st e) m
+    ]
+
+pub full-stays-full : (batch grants st : List ℕ) → T (wellFormed st) → Full st → Full (readLeaves batch grants st)
+full-stays-full batch grants st w full c l = marks-stay batch grants st w c l (full c l)
+
+pub full-stays-full-after : (grants st : List ℕ) (batches : List (List ℕ)) → T (wellFormed st) → Full st
+    → T (wellFormed (leftBy grants st batches)) × Full (leftBy grants st batches)
+full-stays-full-after grants st [] w full = (w, full)
+full-stays-full-after grants st (b ∷ bs) w full =
+    full-stays-full-after grants (readLeaves b grants st) bs
+    (formed-iff (readLeaves b grants st) .1 (leaves-formed b grants st (formed-iff st .0 w))) (full-stays-full b grants st w full)
+
+-- ---- turn after turn
+
+-- the written words of a state, and the batches after them, leave a state of the chip from which the same can be said of the next turn
+takes-length : (chip : List ℕ) (t : Turn) → Proper t → length chip ≡ stateWords → length (takes chip t) ≡ stateWords
+unfolding takes
+takes-length chip t p n =
+    length-obeys-all (t .grants) (t .state) (obeys chip (written (t .state))) (t .batches) (p .accepted)
+    (switch-lays chip (t .state) (t .grants) mostWritten (p .written) n .size)
+
+-- whatever programs had their turns before, and whatever the chip held before them: while a program whose state marks every cell has its
+-- turn, every address on the chip lies, with its reach, inside a grant of that program
+pub whose-turn : (chip : List ℕ) (before : List Turn) (t : Turn) → length chip ≡ stateWords → All Proper before → Proper t → Full (t .state)
+    → EachAddress (Inside (grantsOf (t .grants))) (takesAll chip (before ++ t ∷ []))
+unfolding takesAll takes
+whose-turn chip [] t n all p full =
+    after-a-switch chip (t .state) (t .grants) mostWritten (p .written) n (λ c l m h. full c l) (t .batches) (p .accepted)
+whose-turn chip (x ∷ before) t n all p full = whose-turn (takes chip x) before t (takes-length chip x (all .0) n) (all .1) p full
+
+-- a well-formed chip stays so
+obeys-formed : (grants st chip : List ℕ) (batches : List (List ℕ)) → AllAccepted grants st batches → Formed chip → Formed (obeysAll chip batches)
+unfolding obeysAll obeys
+obeys-formed grants st chip [] a f = f
+obeys-formed grants st chip (b ∷ bs) a f =
+    obeys-formed grants (readLeaves b grants st) (obeys chip b) bs (a .1) (formed-writes chip (writesOf b) (accepted-low b grants st (a .0)) f)
+
+takes-formed : (chip : List ℕ) (t : Turn) → Proper t → Formed chip → Formed (takes chip t)
+unfolding takes
+takes-formed chip t p f =
+    let g = termsOf (t .grants) in
+    let st = t .state in
+    let s = wrote st (t .grants) mostWritten (p .written) .1 in
+    let low : All Low (chosenFrom (marked st) st 0 cells) =
+    rw (written-writes g st (s .fine)) at (packets-low g (packetsOf st) (written-permitted g st (s .fine))) in
+    let now : Formed (obeys chip (written st)) = rw (obeys-written g chip st s) (formed-writes chip (chosenFrom (marked st) st 0 cells) low f) in
+    obeys-formed (t .grants) st (obeys chip (written st)) (t .batches) (p .accepted) now
+
+-- and the chip then is what the driver keeps for it: nothing of another program is left
+pub nothing-else-is-left : (chip : List ℕ) (before : List Turn) (t : Turn) → T (wellFormed chip) → All Proper before → Proper t → Full (t .state)
+    → takesAll chip (before ++ t ∷ []) ≡ leftBy (t .grants) (t .state) (t .batches)
+unfolding takesAll takes
+nothing-else-is-left chip [] t w all p full =
+    chip-is-the-state chip (t .state) (t .grants) mostWritten (t .batches) w (p .written) (λ c l m. full c l) (p .accepted)
+nothing-else-is-left chip (x ∷ before) t w all p full =
+    nothing-else-is-left (takes chip x) before t (formed-iff (takes chip x) .1 (takes-formed chip x (all .0) (formed-iff chip .0 w))) (all .1) p full

@@ -1,0 +1,23 @@
+-- The calls of the driver ask nothing of their caller, whatever is lent to them.
+-- What a contract asks is taken as its callers read it: NAME.Asked, of lifetimes and arguments.
+-- Assumes nothing.
+use Rattle.irangelda.proofs.irangelda_read.Reads as irangelda-read
+use Rattle.irangelda.proofs.irangelda_write.Reads as irangelda-write
+use Rattle.irangelda.proofs.irangelda_list.Reads as irangelda-list
+
+-- a contract that every caller keeps to,
+abbrev pub AsksNothing {ℓ} : {K : Type ℓ} {A : K → Type ℓ} (P : (κ : K) → A κ → Type ℓ) → Type ℓ
+AsksNothing P = (κs : _) (a : _) → P κs a
+
+-- since there is nothing to keep to
+pub nothing-asked {ℓ} : Unit {ℓ}
+nothing-asked = tt
+
+pub irangelda-read-asks : AsksNothing irangelda-read.Asked
+irangelda-read-asks κs a = nothing-asked
+
+pub irangelda-write-asks : AsksNothing irangelda-write.Asked
+irangelda-write-asks κs a = nothing-asked
+
+pub irangelda-list-asks : AsksNothing irangelda-list.Asked
+irangelda-list-asks κs a = nothing-asked
