@@ -4,13 +4,15 @@
 #include "../reference/careful.h"
 #include "../reference/nothing.h"
 #include "check.h"
+#include <signal.h>
 #include <stdio.h>
 #include <stdlib.h>
 #include <string.h>
 #include <sys/mman.h>
 #include <ucontext.h>
+#include <unistd.h>
 
-enum { PAGE = 4096, GUARD = 64, GUARD_BYTE = 0x5c, PAINT = 0xa5, STACK_BYTES = 4 * PAGE, RETURN_ADDRESS = 8 };
+enum { PAGE = 4096, GUARD = 64, GUARD_BYTE = 0x5c, PAINT = 0xa5, STACK_BYTES = 4 * PAGE, SIGNAL_BYTES = 16 * PAGE, RETURN_ADDRESS = 8 };
 
 const struct party parties[PARTIES] = {
     [ARCHIVE] = { "archive", irangelda_read, irangelda_write, irangelda_list },
@@ -36,27 +38,36 @@ enum { ROOM = (MOST_LENT + 2 * GUARD + PAGE - 1) / PAGE * PAGE };
 static uint8_t *rooms[BUFFERS];
 static uint8_t guards[GUARD]; /* what guard bytes look like */
 
-/* A buffer in its room. `behind` guard bytes follow it: none where it ends at the fence. */
+/* A buffer in its room, with as many guard bytes before and behind it, and the length that the call is told. */
 struct place {
     uint8_t *at;
-    size_t length, behind;
+    size_t length, before, behind, told;
 };
 
-/* In turn somewhere among guard bytes, and at the very end of the room; an empty buffer in turn as some place and as a null pointer.
-   Eight calls of one party go through all ways to lend three buffers. */
-static struct place lend(size_t which, struct bytes bytes, unsigned turn)
+static struct place place_for(size_t which, size_t length, struct manner manner)
 {
-    struct place place = { rooms[which] + GUARD + turn / 2 % 16, bytes.length, GUARD - 16 };
-    if (turn % 2 == 1) {
-        place.at = bytes.length == 0 ? NULL : rooms[which] + ROOM - bytes.length;
-        place.behind = 0;
+    uint8_t *room = rooms[which];
+    switch (manner.where) {
+    case AMONG_GUARDS:
+        return (struct place){ room + GUARD + manner.off, length, GUARD, GUARD - 16, manner.told };
+    case AT_FENCE:
+        return (struct place){ room + ROOM - length, length, GUARD, 0, manner.told };
+    case OUT_OF_REACH:
+        return (struct place){ room + ROOM, 0, 0, 0, manner.told };
+    default:
+        return (struct place){ NULL, 0, 0, 0, manner.told };
     }
+}
+
+static struct place lend(size_t which, struct bytes bytes, struct manner manner)
+{
+    struct place place = place_for(which, bytes.length, manner);
     if (place.at == NULL)
         return place;
-    memcpy(place.at - GUARD, guards, GUARD);
+    memcpy(place.at - place.before, guards, place.before);
     memcpy(place.at + place.length, guards, place.behind);
-    if (bytes.length != 0)
-        memcpy(place.at, bytes.at, bytes.length);
+    if (place.length != 0)
+        memcpy(place.at, bytes.at, place.length);
     return place;
 }
 
@@ -67,12 +78,13 @@ static int are_guards(const uint8_t *bytes, size_t length)
 
 static int guards_whole(const struct place *place)
 {
-    return place->at == NULL || (are_guards(place->at - GUARD, GUARD) && are_guards(place->at + place->length, place->behind));
+    return place->at == NULL
+        || (are_guards(place->at - place->before, place->before) && are_guards(place->at + place->length, place->behind));
 }
 
 static int same(const struct place *place, struct bytes bytes, size_t from)
 {
-    return from >= bytes.length || memcmp(place->at + from, bytes.at + from, bytes.length - from) == 0;
+    return from >= place->length || memcmp(place->at + from, bytes.at + from, place->length - from) == 0;
 }
 
 /* ---- stacks */
@@ -118,13 +130,13 @@ static void call(void)
     const struct place *p = under_way.places;
     switch (under_way.kind) {
     case READ:
-        under_way.answer = party->read(p[0].at, p[0].length, p[1].at, p[1].length, p[2].at, p[2].length);
+        under_way.answer = party->read(p[0].at, p[0].told, p[1].at, p[1].told, p[2].at, p[2].told);
         break;
     case WRITE:
-        under_way.answer = party->write(p[0].at, p[0].length, p[1].at, p[1].length, p[2].at, p[2].length);
+        under_way.answer = party->write(p[0].at, p[0].told, p[1].at, p[1].told, p[2].at, p[2].told);
         break;
     default:
-        under_way.answer = party->list(p[0].at, p[0].length, p[2].at, p[2].length);
+        under_way.answer = party->list(p[0].at, p[0].told, p[2].at, p[2].told);
     }
 }
 
@@ -138,6 +150,25 @@ static void call_on_own_stack(void)
     makecontext(&callee, call, 0);
     if (swapcontext(&caller, &callee) != 0)
         exit(1);
+}
+
+/* A touch of memory that was not lent ends the tests, but not before it is said whose it was. */
+static void say_who_touched(int signal)
+{
+    const struct place *p = under_way.places;
+    printf("failed: %s %s, told %zx %zx %zx: touched memory that was not lent\n", under_way.party->name, kind_names[under_way.kind],
+           p[0].told, p[1].told, p[2].told);
+    _exit(signal);
+}
+
+static void prepare_for_touches(void)
+{
+    struct sigaction action = { .sa_handler = say_who_touched, .sa_flags = SA_ONSTACK };
+    stack_t own = { .ss_sp = fenced(SIGNAL_BYTES), .ss_size = SIGNAL_BYTES };
+    if (sigaltstack(&own, NULL) != 0 || sigaction(SIGSEGV, &action, NULL) != 0) {
+        perror("no signals");
+        exit(1);
+    }
 }
 
 static size_t bytes_written(enum kind kind, uint64_t answer)
@@ -161,25 +192,42 @@ static void look_around(const struct request *request)
         expect(same(&places[2], request->lent[2], bytes_written(request->kind, answer)), "%s %s: wrote past its end", who, what);
 }
 
-void perform(const struct party *party, const struct request *request, struct outcome *outcome)
+void perform_so(const struct party *party, const struct request *request, const struct manner *manners, struct outcome *outcome)
 {
-    static unsigned turns[PARTIES + 1];
-    unsigned turn = turns[number_of(party)]++;
     under_way.party = party;
     under_way.kind = request->kind;
     for (size_t i = 0; i < BUFFERS; i++)
-        under_way.places[i] = lend(i, request->lent[i], turn >> i);
+        under_way.places[i] = lend(i, request->lent[i], manners[i]);
     call_on_own_stack();
     look_around(request);
     outcome->answer = under_way.answer;
-    outcome->length = request->lent[2].length;
+    outcome->length = under_way.places[2].length;
     if (outcome->length != 0)
         memcpy(outcome->after, under_way.places[2].at, outcome->length);
+}
+
+static struct manner manner_of(struct bytes bytes, unsigned turn)
+{
+    struct manner manner = { AMONG_GUARDS, turn / 2 % 16, bytes.length };
+    if (turn % 2 == 1)
+        manner.where = bytes.length == 0 ? NULL_POINTER : AT_FENCE;
+    return manner;
+}
+
+void perform(const struct party *party, const struct request *request, struct outcome *outcome)
+{
+    static unsigned turns[PARTIES + 1];
+    struct manner manners[BUFFERS];
+    unsigned turn = turns[number_of(party)]++;
+    for (size_t i = 0; i < BUFFERS; i++)
+        manners[i] = manner_of(request->lent[i], turn >> i);
+    perform_so(party, request, manners, outcome);
 }
 
 void prepare_lending(void)
 {
     memset(guards, GUARD_BYTE, GUARD);
+    prepare_for_touches();
     for (size_t i = 0; i < BUFFERS; i++)
         rooms[i] = fenced(ROOM);
     for (size_t party = 0; party <= PARTIES; party++)

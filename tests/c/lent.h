@@ -44,7 +44,26 @@ extern const struct party parties[PARTIES];
 extern const char *const kind_names[KINDS];
 
 void prepare_lending(void);
+
+/* In turn among guards, at each distance, and at the fence; an empty buffer in turn as some place and as a null pointer. Eight calls of
+   one party go through all ways to lend three buffers. */
 void perform(const struct party *party, const struct request *request, struct outcome *outcome);
+
+/* Where a buffer lies, and what the call is told of its length. */
+enum where {
+    AMONG_GUARDS,
+    AT_FENCE,     /* it ends where memory that cannot be touched begins */
+    OUT_OF_REACH, /* it would begin there: none of its bytes can be touched, and none is looked at afterwards */
+    NULL_POINTER  /* for an empty buffer */
+};
+
+struct manner {
+    enum where where;
+    size_t off;  /* among guards: how many bytes behind a multiple of 64, at most 15 */
+    size_t told;
+};
+
+void perform_so(const struct party *party, const struct request *request, const struct manner *manners, struct outcome *outcome);
 
 /* The most bytes of stack that any call of this kind has used so far, its return address among them. */
 size_t stack_used(const struct party *party, enum kind kind);

@@ -1,10 +1,8 @@
-#define _GNU_SOURCE
 #include "cases.h"
 #include "check.h"
 #include "lent.h"
 #include "words.h"
 #include <string.h>
-#include <sys/mman.h>
 
 enum { LENT_WORDS = MOST_LENT / 4, OK = IRANGELDA_OK, LAST = BUFFERS - 1 };
 
@@ -231,34 +229,6 @@ static void spoilt_grants(const struct party *party, enum kind kind)
         }
 }
 
-/* ---- lengths that need more than 32 bits */
-
-static void huge_lengths(const struct party *party)
-{
-    size_t huge = (size_t)1 << 32, reserved = huge + MOST_LENT;
-    uint8_t *at = mmap(NULL, reserved, PROT_NONE, MAP_PRIVATE | MAP_ANONYMOUS | MAP_NORESERVE, -1, 0);
-    if (at == MAP_FAILED || mprotect(at, MOST_LENT / 4096 * 4096, PROT_READ | PROT_WRITE) != 0) {
-        expect(0, "no room in memory for huge lengths");
-        return;
-    }
-    uint8_t other[STATE_BYTES];
-    memcpy(other, state, STATE_BYTES);
-    memcpy(at, batch, 8);
-    expect(party->read(at, huge + 8, NULL, 0, other, STATE_BYTES) == 13, "%s read: a huge batch", party->name);
-    memcpy(at, grants, 16);
-    expect(party->read(batch, 8, at, huge + 16, other, STATE_BYTES) == 13, "%s read: huge grants", party->name);
-    expect(party->write(other, STATE_BYTES, at, huge + 16, out, 8) == 13, "%s write: huge grants", party->name);
-    expect(party->write(other, STATE_BYTES, NULL, 0, at, huge + 8) == 13, "%s write: a huge room", party->name);
-    expect(party->list(other, STATE_BYTES, at, huge + 30) == 13, "%s list: a huge room", party->name);
-    expect(memcmp(at, grants, 16) == 0, "%s: a huge room changed", party->name);
-    memcpy(at, state, STATE_BYTES);
-    expect(party->read(batch, 8, NULL, 0, at, huge + STATE_BYTES) == 13, "%s read: a huge state", party->name);
-    expect(party->write(at, huge + STATE_BYTES, NULL, 0, out, 8) == 13, "%s write: a huge state", party->name);
-    expect(party->list(at, huge + STATE_BYTES, out, 30) == 13, "%s list: a huge state", party->name);
-    expect(memcmp(at, state, STATE_BYTES) == 0 && memcmp(other, state, STATE_BYTES) == 0, "%s: a huge state changed", party->name);
-    munmap(at, reserved);
-}
-
 void limits(void)
 {
     fill();
@@ -271,7 +241,6 @@ void limits(void)
         reader_order(party);
         writer_order(party);
         lister_order(party);
-        huge_lengths(party);
         for (int kind = 0; kind < KINDS; kind++) {
             state_lengths(party, (enum kind)kind);
             spoilt_states(party, (enum kind)kind);

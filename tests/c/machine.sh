@@ -2,36 +2,28 @@
 #
 # On x86-64 the programs are compiled by cc and run by themselves. Elsewhere, and with EMULATE=1, Debian's compiler for x86-64 compiles
 # them, which has the same name on Arm and on x86-64, and they run under qemu-x86_64. Packages are installed only where something is
-# missing. An archive that is there already is taken as it is.
+# missing.
+#
+# The archive is the one that rt builds of the sources as they are. With IRANGELDA_ARCHIVE=FILE (its whole path) it is that file,
+# whatever is in it: for looking at an archive that is not proved.
+root=$PWD
+. desk/machine.sh
+. desk/fresh.sh
 
 scratch=target/c
-archive=target/staticlib/libirangelda.a
-
-native() {
-    [ "$(uname -m)" = x86_64 ]
-}
+archive=${IRANGELDA_ARCHIVE:-target/staticlib/libirangelda.a}
 
 if native && [ "${EMULATE:-0}" != 1 ]; then
     cc=cc
     nm=nm
+    readelf=readelf
     emulator=
 else
     cc=x86_64-linux-gnu-gcc
     nm=x86_64-linux-gnu-nm
+    readelf=x86_64-linux-gnu-readelf
     emulator=qemu-x86_64
 fi
-
-install_packages() {
-    if [ "$(id -u)" = 0 ]; then as_root=; else as_root=sudo; fi
-    {
-        $as_root apt-get update -qq
-        $as_root env DEBIAN_FRONTEND=noninteractive apt-get install -y -qq --no-install-recommends "$@"
-    } >&2
-}
-
-have() {
-    command -v "$1" >/dev/null 2>&1
-}
 
 links_statically() {
     echo 'int main(void) { return 0; }' | "$cc" -static -x c - -o "$scratch/probe" 2>/dev/null
@@ -53,7 +45,11 @@ prepare_emulator() {
 }
 
 prepare_archive() {
-    [ -f "$archive" ] || rt staticlib irangelda >&2
+    if [ -n "${IRANGELDA_ARCHIVE:-}" ]; then
+        tell "the archive is $archive, which nothing here says is proved"
+    else
+        fresh_archive irangelda
+    fi
 }
 
 mkdir -p "$scratch"

@@ -35,6 +35,7 @@ int main(void)
     part("writings", writings);
     part("borders", borders);
     part("limits", limits);
+    part("lendings", lendings);
     part("made-up calls", made_up);
     part("stacks", stacks);
     if (failures != 0) {

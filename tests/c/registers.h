@@ -1,4 +1,4 @@
-/* The 101 registers, typed from document 01 for the tests alone: their names, their must-be-clear bits, and values that they may hold. */
+/* The 101 registers, typed from docs/RULES.md for the tests alone: their names, their must-be-clear bits, and values that they may hold. */
 #ifndef REGISTERS_H
 #define REGISTERS_H
 

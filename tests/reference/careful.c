@@ -1,5 +1,5 @@
 /*
- * The three calls as a careful C programmer writes them, from document 01 alone: its rules in its order and words, each reason
+ * The three calls as a careful C programmer writes them, from docs/RULES.md alone: its rules in its order and words, each reason
  * returned where it is found. The shape is one that is quick, and the rest is left to the compiler.
  *
  * The reader goes through the batch once, works on a copy of the state and hands the copy back only when the whole batch was fine.

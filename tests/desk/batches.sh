@@ -1,30 +1,22 @@
-#!/bin/sh
-# Runs the program list_batch on document 01's cases and on inputs of awkward lengths, and compares what it writes byte for byte.
-set -u
-root=$(cd "$(dirname "$0")/../.." && pwd) || exit 1
-. "$root/tests/list_batch/program"
+# Sourced by tests/desk/run: the cases of docs/RULES.md and inputs of awkward lengths, and what is listed.
 
-work=$(mktemp -d) || exit 1
-trap 'rm -rf "$work"' EXIT
-passed=0 failed=0
-
-# What the program wrote, in got, is what is wanted.
-compare() { # NAME
-    if cmp -s "$work/want" "$work/got"; then
-        passed=$((passed + 1))
-    else
-        failed=$((failed + 1))
-        echo "list_batch: $1: wanted"
-        cat "$work/want"
-        echo "list_batch: $1: got"
-        cat "$work/got"
-    fi
+# The file in, as bytes on standard input.
+as_bytes() { # NAME STATUS
+    desk list <"$work/in"
+    ended "$1" "$2"
+    printed "$1"
 }
 
-# Runs the program on the file in.
-check() { # NAME
-    list_batch <"$work/in" >"$work/got"
-    compare "$1"
+# The same words, as words and as bytes.
+both_ways() { # NAME STATUS WORDS..
+    name=$1 wanted=$2
+    shift 2
+    bytes "$@" >"$work/in"
+    as_bytes "$name, as bytes" "$wanted"
+    [ $# -gt 0 ] || return 0
+    desk list "$@"
+    ended "$name" "$wanted"
+    printed "$name"
 }
 
 # A batch that is accepted, and the lines of its listing; or refused.
@@ -32,18 +24,16 @@ accepted() { # NAME LINES WORDS..
     name=$1
     printf '%s\n' "$2" >"$work/want"
     shift 2
-    bytes "$@" >"$work/in"
-    check "$name"
+    both_ways "$name" 0 "$@"
 }
 refused() { # NAME REASON PLACE WORDS..
     name=$1
     printf 'reason=%s place=%s\n' "$2" "$3" >"$work/want"
     shift 3
-    bytes "$@" >"$work/in"
-    check "$name"
+    both_ways "$name" 1 "$@"
 }
 
-# ---- the cases of document 01 that K1's grant lets us try; K2 and K3 have other grants
+# ---- the cases that K1's grant lets us try; K2 and K3 have other grants
 
 accepted K1 'cells=1
 reg=01.00.50 val=00001000' 0002043C 00010000 50001000
@@ -86,6 +76,12 @@ refused 'scaler location' 8 1 000123EC 00000001
 refused 'scaler mask' 7 1 000123EC 00000004
 refused 'type 03' 5 1 0002043C 00030000 50001000
 
+# ---- words in lower case and without their leading zeros
+
+accepted 'short words' 'cells=1
+reg=01.00.50 val=00001000' 2043c 10000 50001000
+refused 'a short word' 3 0 0
+
 # ---- no packet, and several
 
 accepted empty 'cells=0'
@@ -108,7 +104,7 @@ bytes 0002043C 00010000 50001000 00022208 >"$work/all"
 echo 'reason=13 place=0' >"$work/want"
 for size in 1 2 3 13 14 15; do
     head -c "$size" "$work/all" >"$work/in"
-    check "$size bytes"
+    as_bytes "$size bytes" 1
 done
 
 # ---- the largest batch, 16,384 words, and what is larger: packets like K1's, in steps of twice as many
@@ -127,23 +123,48 @@ large() { # BYTES WORDS..: so many bytes of those packets, and the words behind 
 
 printf 'cells=2\nreg=01.00.3f val=00400400\nreg=01.00.50 val=00001000\n' >"$work/want"
 large 65520 0003043C 00010000 50001000 3F400400 >"$work/in"
-check '65,536 bytes'
+as_bytes '65,536 bytes' 0
 
 printf 'reason=10 place=16384\n' >"$work/want"
 large 65532 0002043C >"$work/in"
-check '65,536 bytes, cut'
+as_bytes '65,536 bytes, cut' 1
 
 printf 'reason=8 place=16383\n' >"$work/want"
 large 65520 0003043C 00010000 50001000 3F000401 >"$work/in"
-check '65,536 bytes, the last word bad'
+as_bytes '65,536 bytes, the last word bad' 1
 
 printf 'reason=13 place=0\n' >"$work/want"
 for size in 65537 65538 65540 98304; do
     head -c "$size" "$work/k1" >"$work/in"
-    check "$size bytes"
+    as_bytes "$size bytes" 1
 done
 
+# ---- as many words on the command line, and one more
+
+printf 'reason=10 place=16384\n' >"$work/want"
+k1_words='0002043C 00010000 50001000'
+many=$(while :; do echo "$k1_words"; done | head -n 5461)
+desk list $many 0002043C
+ended '16,384 words' 1
+printed '16,384 words'
+
+printf 'reason=13 place=0\n' >"$work/want"
+desk list $many 0002043C 00010000
+ended '16,385 words' 1
+printed '16,385 words'
+
 # ---- input that comes in pieces
+
+# A variable that is set behind a pipe is lost there.
+from_pipe() {
+    desk list
+    echo "$status" >"$work/status"
+}
+came_in_pieces() { # NAME STATUS
+    status=$(cat "$work/status")
+    ended "$1" "$2"
+    printed "$1"
+}
 
 printf 'cells=1\nreg=01.00.50 val=00001000\n' >"$work/want"
 {
@@ -152,16 +173,13 @@ printf 'cells=1\nreg=01.00.50 val=00001000\n' >"$work/want"
     bytes 0002043C 00010000 50001000 | tail -c 11 | head -c 6
     sleep 1
     bytes 0002043C 00010000 50001000 | tail -c 5
-} | list_batch >"$work/got"
-compare 'three pieces'
+} | from_pipe
+came_in_pieces 'three pieces' 0
 
 printf 'cells=2\nreg=01.00.3f val=00400400\nreg=01.00.50 val=00001000\n' >"$work/want"
-large 65520 0003043C 00010000 50001000 3F400400 | dd bs=100 2>/dev/null | list_batch >"$work/got"
-compare '65,536 bytes in pieces of 100'
+large 65520 0003043C 00010000 50001000 3F400400 | dd bs=100 2>/dev/null | from_pipe
+came_in_pieces '65,536 bytes in pieces of 100' 0
 
 printf 'reason=13 place=0\n' >"$work/want"
-large 65520 0003043C 00010000 50001000 3F400400 00022208 | dd bs=100 2>/dev/null | list_batch >"$work/got"
-compare '65,540 bytes in pieces of 100'
-
-echo "list_batch: $passed passed, $failed failed"
-[ "$failed" -eq 0 ]
+large 65520 0003043C 00010000 50001000 3F400400 00022208 | dd bs=100 2>/dev/null | from_pipe
+came_in_pieces '65,540 bytes in pieces of 100' 1

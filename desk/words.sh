@@ -1,0 +1,52 @@
+# Sourced by ./irangelda: the words of use.
+
+help() {
+    cat <<'END' || fail 'the output could not be written'
+irangelda: what a batch of register writes does, for the support desk
+
+  ./irangelda list WORD..   the registers that a batch leaves, from the empty
+                            state; each WORD of the batch is 1 to 8 hex digits
+  ./irangelda list <FILE    the same for a batch as bytes, the lowest byte of a
+                            word first; not from a terminal
+  ./irangelda help          this page
+
+  For example: ./irangelda list 0002043C 00010000 50001000
+
+list reads the batch under one grant only, that of case K1: role 1, start
+00100000h, length and reach 00080000h. If it is refused, one line says so,
+reason=R place=P: docs/DRIVER.md has the reasons, and places are words of the
+batch from 0.
+
+Exit status: 0 listed, 1 refused, 2 wrong use, 3 a failure: it could not be
+built or run, or its output could not be written. 2 and 3 say why on standard
+error.
+
+The first time, and after a source has changed, it proves and builds what it
+runs. That takes some minutes and needs rt, Rattle's command.
+END
+}
+
+# The registers that a batch leaves from the empty state, under the grant of case K1.
+list() { # WORD..
+    for word; do
+        case $word in
+        '' | *[!0-9A-Fa-f]* | ?????????*) wrong_use "'$word' is no word of 1 to 8 hex digits" ;;
+        esac
+    done
+    [ $# -gt 0 ] || [ ! -t 0 ] || wrong_use 'no words are given, and standard input is a terminal'
+    prepare_answer
+    if [ $# -gt 0 ]; then
+        bytes "$@" | cat >"$work/batch" || fail 'the batch could not be kept'
+        run_program list_batch <"$work/batch"
+    else
+        run_program list_batch
+    fi
+    read -r first <"$answer"
+    case $first in
+    cells=*) status=$LISTED ;;
+    reason=*) status=$REFUSED ;;
+    *) fail 'list_batch printed neither a listing nor a refusal' ;;
+    esac
+    pass_on
+    exit "$status"
+}

@@ -1,0 +1,249 @@
+/* Ways to lend that change no answer: how a buffer is aligned, and a null pointer for an empty one. And lengths that no buffer has: they
+   are refused before any byte is looked at. */
+#include "cases.h"
+#include "check.h"
+#include "lent.h"
+#include "registers.h"
+#include "words.h"
+#include <string.h>
+
+enum { LAST = BUFFERS - 1, ROOM = 4096, FULL_WORDS = IRANGELDA_WRITE_WORDS_ENOUGH };
+
+/* Requests from K1 and from a full state, and what is wrong in the bad ones. */
+static uint8_t k1_batch[12], k1_state[STATE_BYTES], k1_grant[16], short_grant[16];
+static uint8_t full_batch[4 * FULL_WORDS], bad_batch[4 * FULL_WORDS];
+static uint8_t full_state[STATE_BYTES], bad_cell[STATE_BYTES], bad_state[STATE_BYTES];
+static uint8_t grants[IRANGELDA_GRANTS_BYTES_MAX], bad_grants[IRANGELDA_GRANTS_BYTES_MAX], out[ROOM];
+static const uint8_t empty[STATE_BYTES];
+
+struct trial {
+    const char *name;
+    struct request request;
+    unsigned reason;
+    uint32_t place;
+};
+
+static const struct trial trials[] = {
+    { "K1", { READ, { { k1_batch, 12 }, { k1_grant, 16 }, { full_state, STATE_BYTES } } }, IRANGELDA_OK, 3 },
+    { "K2", { READ, { { k1_batch, 12 }, { short_grant, 16 }, { empty, STATE_BYTES } } }, IRANGELDA_NOT_GRANTED, 2 },
+    { "a full state", { READ, { { full_batch, sizeof full_batch }, { grants, sizeof grants }, { empty, STATE_BYTES } } },
+      IRANGELDA_OK, FULL_WORDS },
+    { "a bad last word", { READ, { { bad_batch, sizeof bad_batch }, { grants, sizeof grants }, { empty, STATE_BYTES } } },
+      IRANGELDA_BIT_SET, FULL_WORDS - 1 },
+    { "a batch cut short", { READ, { { full_batch, sizeof full_batch - 4 }, { grants, sizeof grants }, { empty, STATE_BYTES } } },
+      IRANGELDA_ENDS_INSIDE, FULL_WORDS - 1 },
+    { "a bad last grant", { READ, { { full_batch, sizeof full_batch }, { bad_grants, sizeof grants }, { empty, STATE_BYTES } } },
+      IRANGELDA_BAD_GRANTS, 0 },
+    { "a bad last mark", { READ, { { full_batch, sizeof full_batch }, { grants, sizeof grants }, { bad_state, STATE_BYTES } } },
+      IRANGELDA_BAD_STATE, 0 },
+    { "K1", { WRITE, { { k1_state, STATE_BYTES }, { k1_grant, 16 }, { out, 16 } } }, IRANGELDA_OK, 3 },
+    { "a full state", { WRITE, { { full_state, STATE_BYTES }, { grants, sizeof grants }, { out, ROOM } } }, IRANGELDA_OK, FULL_WORDS },
+    { "a word too little", { WRITE, { { full_state, STATE_BYTES }, { grants, sizeof grants }, { out, 4 * FULL_WORDS - 4 } } },
+      IRANGELDA_NO_ROOM, 0 },
+    { "a bad last cell", { WRITE, { { bad_cell, STATE_BYTES }, { grants, sizeof grants }, { out, ROOM } } },
+      IRANGELDA_NOT_WRITABLE, CELLS - 1 },
+    { "a bad last grant", { WRITE, { { full_state, STATE_BYTES }, { bad_grants, sizeof grants }, { out, ROOM } } },
+      IRANGELDA_BAD_GRANTS, 0 },
+    { "a bad last mark", { WRITE, { { bad_state, STATE_BYTES }, { grants, sizeof grants }, { out, ROOM } } }, IRANGELDA_BAD_STATE, 0 },
+    { "K1", { LIST, { { k1_state, STATE_BYTES }, { NULL, 0 }, { out, 40 } } }, IRANGELDA_OK, 34 },
+    { "a full state", { LIST, { { full_state, STATE_BYTES }, { NULL, 0 }, { out, ROOM } } },
+      IRANGELDA_OK, IRANGELDA_LIST_BYTES_ENOUGH },
+    { "a byte too little", { LIST, { { full_state, STATE_BYTES }, { NULL, 0 }, { out, IRANGELDA_LIST_BYTES_ENOUGH - 1 } } },
+      IRANGELDA_NO_ROOM, 0 },
+    { "a bad last mark", { LIST, { { bad_state, STATE_BYTES }, { NULL, 0 }, { out, ROOM } } }, IRANGELDA_BAD_STATE, 0 }
+};
+
+enum { TRIALS = sizeof trials / sizeof *trials };
+
+/* 64 grants, of which the last three are of all memory for each role. */
+static void fill_grants(void)
+{
+    static const uint32_t other[4] = { 1, 0x1000, 0x1000, 0x1001 }, all_memory[4] = { 1, 0, 0xffffffff, 1 };
+    for (uint32_t i = 0; i < IRANGELDA_GRANTS_MAX; i++) {
+        put_words(grants + 16 * i, i < IRANGELDA_GRANTS_MAX - 3 ? other : all_memory, 4);
+        put_word(grants + 16 * i, 0, 1 + i % 3);
+    }
+}
+
+/* The words of the full state are the reference's. */
+static void fill(void)
+{
+    static struct outcome written;
+    static const struct request write_full = { WRITE, { { full_state, STATE_BYTES }, { grants, sizeof grants }, { out, ROOM } } };
+    put_words(k1_batch, (const uint32_t[]){ 0x0002043c, 0x00010000, 0x50001000 }, 3);
+    put_words(k1_grant, (const uint32_t[]){ 1, 0x00100000, 0x00080000, 0x00080000 }, 4);
+    put_words(short_grant, (const uint32_t[]){ 1, 0x00100000, 0x00080000, 0x00080001 }, 4);
+    set_cell(k1_state, 1, 0x1000);
+    for (size_t cell = 0; cell < CELLS; cell++)
+        set_cell(full_state, cell, role_of(cell) == NO_ROLE ? value_without_address(cell, 0x2b0a1f35u + 77 * (uint32_t)cell)
+                                                            : value_with_address(cell, 0x01234500 + 0x100 * (uint32_t)cell));
+    fill_grants();
+    for (size_t i = 0; i < ROOM; i++)
+        out[i] = (uint8_t)(7 * i + 1);
+    perform(&parties[CAREFUL], &write_full, &written);
+    memcpy(full_batch, written.after, sizeof full_batch);
+    memcpy(bad_batch, full_batch, sizeof bad_batch);
+    put_word(bad_batch, FULL_WORDS - 1, get_word(full_batch, FULL_WORDS - 1) | 4);
+    memcpy(bad_cell, full_state, STATE_BYTES);
+    put_word(bad_cell, CELLS - 1, 4);
+    memcpy(bad_state, full_state, STATE_BYTES);
+    put_word(bad_state, 2 * CELLS - 1, 2);
+    memcpy(bad_grants, grants, sizeof grants);
+    put_word(bad_grants, sizeof grants / 4 - 1, 0);
+}
+
+static struct outcome outcome;
+
+static void answers(const struct party *party, const struct request *request, const struct manner *manners, const char *name,
+                    uint32_t place, unsigned reason)
+{
+    perform_so(party, request, manners, &outcome);
+    expect(outcome.answer == (uint64_t)place * 256 + reason, "%s %s, %s, off by %zu %zu %zu, told %zx %zx %zx: reason %u place %u",
+           party->name, kind_names[request->kind], name, manners[0].off, manners[1].off, manners[2].off, manners[0].told,
+           manners[1].told, manners[2].told, (unsigned)IRANGELDA_REASON(outcome.answer), (unsigned)IRANGELDA_PLACE(outcome.answer));
+}
+
+/* ---- each buffer on a multiple of 8 and off by 1 to 7, in all combinations */
+
+enum { OFFS = 8 };
+
+static void alignments(const struct party *party, const struct trial *trial)
+{
+    static struct outcome reference;
+    struct manner manners[BUFFERS];
+    for (size_t i = 0; i < BUFFERS; i++)
+        manners[i] = (struct manner){ AMONG_GUARDS, 0, trial->request.lent[i].length };
+    perform_so(&parties[CAREFUL], &trial->request, manners, &reference);
+    for (size_t offs = 0; offs < OFFS * OFFS * OFFS; offs++) {
+        manners[0].off = offs % OFFS;
+        manners[1].off = offs / OFFS % OFFS;
+        manners[2].off = offs / OFFS / OFFS;
+        answers(party, &trial->request, manners, trial->name, trial->place, trial->reason);
+        expect(memcmp(outcome.after, reference.after, reference.length) == 0, "%s %s, %s, off by %zu %zu %zu: other bytes", party->name,
+               kind_names[trial->request.kind], trial->name, manners[0].off, manners[1].off, manners[2].off);
+    }
+}
+
+/* ---- null pointers */
+
+enum { FIRST = 1, GRANTS = 2, CHANGED = 4 };
+
+/* K1, with nothing lent in place of some buffers; or the empty state, which needs no words but a line. */
+static const struct {
+    const char *name;
+    enum kind kind;
+    const uint8_t *state;
+    unsigned nothing, reason;
+    uint32_t place;
+} nothings[] = {
+    { "no batch", READ, k1_state, FIRST, IRANGELDA_OK, 0 },
+    { "no grants", READ, k1_state, GRANTS, IRANGELDA_NOT_GRANTED, 2 },
+    { "no state", READ, k1_state, CHANGED, IRANGELDA_BAD_STATE, 0 },
+    { "no batch, no grants", READ, k1_state, FIRST | GRANTS, IRANGELDA_OK, 0 },
+    { "no batch, no state", READ, k1_state, FIRST | CHANGED, IRANGELDA_BAD_STATE, 0 },
+    { "no grants, no state", READ, k1_state, GRANTS | CHANGED, IRANGELDA_BAD_STATE, 0 },
+    { "nothing", READ, k1_state, FIRST | GRANTS | CHANGED, IRANGELDA_BAD_STATE, 0 },
+    { "no state", WRITE, k1_state, FIRST, IRANGELDA_BAD_STATE, 0 },
+    { "no grants", WRITE, k1_state, GRANTS, IRANGELDA_NOT_WRITABLE, 1 },
+    { "no room", WRITE, k1_state, CHANGED, IRANGELDA_NO_ROOM, 0 },
+    { "no state, no grants", WRITE, k1_state, FIRST | GRANTS, IRANGELDA_BAD_STATE, 0 },
+    { "no state, no room", WRITE, k1_state, FIRST | CHANGED, IRANGELDA_BAD_STATE, 0 },
+    { "no grants, no room", WRITE, k1_state, GRANTS | CHANGED, IRANGELDA_NOT_WRITABLE, 1 },
+    { "nothing", WRITE, k1_state, FIRST | GRANTS | CHANGED, IRANGELDA_BAD_STATE, 0 },
+    { "empty, no grants", WRITE, empty, GRANTS, IRANGELDA_OK, 0 },
+    { "empty, no room", WRITE, empty, CHANGED, IRANGELDA_OK, 0 },
+    { "empty, no grants, no room", WRITE, empty, GRANTS | CHANGED, IRANGELDA_OK, 0 },
+    { "no state", LIST, k1_state, FIRST, IRANGELDA_BAD_STATE, 0 },
+    { "no room", LIST, k1_state, CHANGED, IRANGELDA_NO_ROOM, 0 },
+    { "nothing", LIST, k1_state, FIRST | CHANGED, IRANGELDA_BAD_STATE, 0 },
+    { "empty, no room", LIST, empty, CHANGED, IRANGELDA_NO_ROOM, 0 }
+};
+
+static struct request from_k1(enum kind kind, const uint8_t *state)
+{
+    switch (kind) {
+    case READ:
+        return (struct request){ READ, { { k1_batch, 12 }, { k1_grant, 16 }, { state, STATE_BYTES } } };
+    case WRITE:
+        return (struct request){ WRITE, { { state, STATE_BYTES }, { k1_grant, 16 }, { out, 12 } } };
+    default:
+        return (struct request){ LIST, { { state, STATE_BYTES }, { NULL, 0 }, { out, 34 } } };
+    }
+}
+
+static void null_pointers(const struct party *party)
+{
+    static const enum where wheres[] = { AMONG_GUARDS, AT_FENCE };
+    for (size_t row = 0; row < sizeof nothings / sizeof *nothings; row++)
+        for (size_t way = 0; way < 2; way++) {
+            struct request request = from_k1(nothings[row].kind, nothings[row].state);
+            struct manner manners[BUFFERS];
+            for (size_t i = 0; i < BUFFERS; i++) {
+                int nothing = (nothings[row].nothing >> i & 1) != 0;
+                if (nothing)
+                    request.lent[i] = (struct bytes){ NULL, 0 };
+                manners[i] = (struct manner){ nothing ? NULL_POINTER : wheres[way], 0, request.lent[i].length };
+            }
+            answers(party, &request, manners, nothings[row].name, nothings[row].place, nothings[row].reason);
+        }
+}
+
+/* ---- lengths that no buffer has: those that a callee might take for short ones, by too few bits, by a sign or by a product */
+
+#define POWER(n) ((uint64_t)1 << (n))
+#define BELOW_ALL(n) (-(uint64_t)(n)) /* 2^64 - n */
+
+/* On top of the true length, */
+static const uint64_t too_much[] = {
+    POWER(16), POWER(17), POWER(31), POWER(32), POWER(33), POWER(60), POWER(62), POWER(63), POWER(63) + POWER(62)
+};
+
+/* and instead of it. */
+static const uint64_t too_long[] = {
+    POWER(32) - 4, POWER(32), POWER(63) - 4, POWER(63) - 1, POWER(63), POWER(63) + 1, POWER(63) + 4, POWER(63) + 65536,
+    BELOW_ALL(POWER(32)), BELOW_ALL(65536), BELOW_ALL(808), BELOW_ALL(16), BELOW_ALL(8), BELOW_ALL(4), BELOW_ALL(3), BELOW_ALL(1)
+};
+
+enum { TOO_MUCH = sizeof too_much / sizeof *too_much, TOO_LONG = sizeof too_long / sizeof *too_long };
+
+static size_t length_told(size_t length, size_t which)
+{
+    return which < TOO_MUCH ? length + too_much[which] : too_long[which - TOO_MUCH];
+}
+
+/* The buffers in the set `said` are told to be so long. What there is of them ends at the fence, or none of it can be touched. */
+static void told_too_long(const struct party *party, enum kind kind, unsigned said, size_t which, enum where where)
+{
+    struct request request = from_k1(kind, k1_state);
+    struct manner manners[BUFFERS];
+    for (size_t i = 0; i < BUFFERS; i++) {
+        size_t length = request.lent[i].length;
+        manners[i] = (said >> i & 1) != 0 ? (struct manner){ where, 0, length_told(length, which) }
+                                          : (struct manner){ AMONG_GUARDS, 0, length };
+    }
+    answers(party, &request, manners, where == AT_FENCE ? "too long" : "too long and out of reach", 0, IRANGELDA_BAD_BUFFER);
+}
+
+static void lengths_of_no_buffer(const struct party *party, enum kind kind)
+{
+    for (unsigned said = 1; said <= (FIRST | GRANTS | CHANGED); said++) {
+        if (kind == LIST && (said & GRANTS) != 0)
+            continue;
+        for (size_t which = 0; which < TOO_MUCH + TOO_LONG; which++) {
+            told_too_long(party, kind, said, which, AT_FENCE);
+            told_too_long(party, kind, said, which, OUT_OF_REACH);
+        }
+    }
+}
+
+void lendings(void)
+{
+    fill();
+    for (size_t p = 0; p < PARTIES; p++) {
+        for (size_t i = 0; i < TRIALS; i++)
+            alignments(&parties[p], &trials[i]);
+        null_pointers(&parties[p]);
+        for (int kind = 0; kind < KINDS; kind++)
+            lengths_of_no_buffer(&parties[p], (enum kind)kind);
+    }
+}
