@@ -8,7 +8,8 @@
  *
  *   batch    words, cut into packets. Changed by no call.
  *   grants   0 to 64 grants of four words each: role (1 target, 2 first scaler, 3 second scaler), start, length, reach. Start +
- *            length is at most 2^32 and reach at least 1. Changed by no call.
+ *            length is at most 2^32 and reach at least 1. Reach is all that the chip may touch from an address on, under every
+ *            register value that the gate permits; docs/DRIVER.md says how large that is. Changed by no call.
  *   state    101 values, then 101 marks: 808 bytes. A mark is 0 or 1, and an unmarked value is 0. All bytes 0 is the empty state.
  *            Changed by irangelda_read alone, and only if it answers reason 0.
  *   out      the writer's words or the lister's text, from the first byte on. Bytes past the end of what is written stay as they
@@ -23,11 +24,19 @@
  *
  * A refusal (any reason but 0) leaves every byte of every buffer as it was.
  *
+ * A change of programs: the words of irangelda_write lead from the empty state to a program's state. On a chip that other programs
+ * have used since it was reset, they leave exactly that state only if the program has written every register that was written
+ * there, by anyone; a register that it has not written keeps the other's value, which may be the address of the other's memory. So
+ * start each program from a state that marks every cell, with addresses of its own (docs/DRIVER.md shows one), or reset the chip
+ * between programs. The words go in whole, on an idle chip, before the program's next batch; nobody else writes these registers.
+ * Before a grant is taken away, a program with such a full state gets its turn, or the chip is reset: it may still hold the address.
+ *
  * The calls keep nothing from one to the next. They need no heap, no locks and no more than 4 KiB of stack, and may run at the same
  * time as long as no buffer that one of them changes is lent to another.
  *
- * The archive is compiled as ordinary programs for x86-64 are: it may use the SSE registers and the 128 bytes below the stack
- * pointer. Code that runs where this is not given, as in a kernel, has to see to both around a call.
+ * The archive is compiled as ordinary programs for x86-64 are: at a call the stack pointer is a multiple of 16, as the calling
+ * convention asks, and the code may use the SSE registers and the 128 bytes below the stack pointer. Code that runs where this is
+ * not given, as in a kernel, has to see to all three around a call.
  *
  * Code that has uint8_t, uint32_t, uint64_t and size_t from elsewhere (a kernel, from its own types header) defines
  * IRANGELDA_OWN_TYPES before it includes this file, which then includes nothing.
@@ -116,7 +125,7 @@ uint64_t irangelda_read(const uint8_t *batch, size_t batch_len,
 
 /*
  * Writes a state as a batch that takes the empty state to it and that irangelda_read accepts under the same grants. Reason 0: the
- * words stand in out. Any other reason: out is as it was.
+ * words stand in out, in its first place * 4 bytes. Any other reason: out is as it was.
  *
  *   state, state_len    looked at: 808 bytes.
  *   grants, grants_len  looked at. 0 bytes is no grants.
