@@ -4,16 +4,15 @@
  */
 #include "check.h"
 #include "registers.h"
-#include <stdint.h>
 #include <stdio.h>
 #include <stdlib.h>
 #include <string.h>
 
+#include "driver_page.c"
+
+enum { CELLS = IRANGELDA_CELLS, STATE_BYTES = IRANGELDA_STATE_BYTES };
+
 /* ---- what the page's code calls */
-
-enum { CELLS = 101, STATE_BYTES = 808 };
-
-struct client;
 
 static struct {
     uint32_t value[CELLS];
@@ -22,34 +21,39 @@ static struct {
 
 static const struct client *limits_of;
 static unsigned reason, place, copies, ring_puts, locked;
-static int ring_is_full, chip_hangs, memory_is_out;
+static int ring_is_full, no_limits, chip_hangs, memory_is_out;
 
-static void complain(unsigned r, unsigned p)
+void complain(enum irangelda_reason r, uint32_t p)
 {
     reason = r;
     place = p;
 }
 
-static uint8_t *private_copy(const void *from, size_t len)
+uint8_t *private_copy(const void *from_program, size_t len)
 {
     uint8_t *copy = memory_is_out ? NULL : malloc(len);
     copies++;
     if (copy != NULL)
-        memcpy(copy, from, len);
+        memcpy(copy, from_program, len);
     return copy;
 }
 
-static void release(uint8_t *copy) { free(copy); }
-static void lock(void) { expect(locked++ == 0, "driver: locked twice"); }
-static void unlock(void) { expect(locked-- == 1, "driver: unlocked without a lock"); }
+void release(uint8_t *batch) { free(batch); }
+void lock(void) { expect(locked++ == 0, "driver: locked twice"); }
+void unlock(void) { expect(locked-- == 1, "driver: unlocked without a lock"); }
 
-static int wait_until_idle(void)
+int wait_until_idle(void)
 {
     expect(locked == 1, "driver: waits without the lock");
     return chip_hangs ? -1 : 0;
 }
 
-static void set_limits(const struct client *client) { limits_of = client; }
+int set_limits(const struct client *client)
+{
+    expect(turn == 0, "driver: limits change in somebody's turn");
+    limits_of = client;
+    return no_limits ? -1 : 0;
+}
 
 static uint32_t word_at(const uint8_t *bytes, size_t i)
 {
@@ -70,7 +74,7 @@ static void obey(uint32_t setting, uint32_t name, uint32_t value)
     expect(0, "driver: the chip has no register %x under %x", name, setting);
 }
 
-static int ring_put(const uint8_t *bytes, size_t len)
+int ring_put(const uint8_t *bytes, size_t len)
 {
     expect(locked == 1, "driver: ring_puts without the lock");
     if (ring_is_full)
@@ -93,8 +97,6 @@ static int ring_put(const uint8_t *bytes, size_t len)
     }
     return 0;
 }
-
-#include "driver_page.c"
 
 /* ---- two programs */
 
@@ -177,6 +179,11 @@ static void turns(void)
     expect(SEND(&captions, one_stage) == DONE, "driver: a batch after a reset");
     holds(&captions, CAPTIONS, "after a reset");
     expect(submit(&captions, NULL, 0) == DONE, "driver: the empty batch");
+    forget(&chart);
+    expect(turn == &captions, "driver: another is forgotten");
+    forget(&captions);
+    expect(turn == 0, "driver: a client is not forgotten");
+    expect(SEND(&captions, one_stage) == DONE, "driver: a new client at the same place");
 }
 
 static void failures_change_nothing(void)
@@ -199,6 +206,10 @@ static void failures_change_nothing(void)
     nothing_happens(SEND(&chart, another_stage), RING_FULL, &other, &chart, before, "the ring is full at a change");
     expect(turn == 0, "driver: somebody's turn, and the words are not in");
     ring_is_full = 0;
+    no_limits = 1;
+    nothing_happens(SEND(&chart, another_stage), RING_FULL, &other, &chart, before, "no room for the limits");
+    expect(turn == 0, "driver: somebody's turn without limits");
+    no_limits = 0;
     expect(SEND(&captions, another_stage) == DONE && chip.value[12] == 7, "driver: once there is room");
     holds(&captions, CAPTIONS, "once there is room");
 
