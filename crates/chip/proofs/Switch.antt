@@ -13,14 +13,14 @@ use Rattle.laws.proofs.Lists.{all-split}
 use Rattle.meaning.specs.Registers.{cells, cell, Content, nothing, address, registerAt}
 use Rattle.meaning.specs.Grants.{grantsOf, termsOf, Terms}
 use Rattle.meaning.specs.Batch.{Cut}
-use Rattle.meaning.specs.State.{stateWords, valueAt, markAt, marked, wellFormed, Write, apply, applyAll, allWrites}
+use Rattle.meaning.specs.State.{stateWords, markAt, marked, wellFormed, Write, apply, applyAll, allWrites}
 use Rattle.meaning.specs.Positions.{writesOf}
 use Rattle.meaning.specs.Reader.{readAnswer, readLeaves}
 use Rattle.meaning.specs.Writer.{wordsFor, packetsOf, mostWritten, written, writeAnswer}
 use Rattle.meaning.specs.Fitter.{Inside, Apart, Safe, OfAddress, Stores}
 use Rattle.meaning.proofs.Writes.{writes-of-cut}
 use Rattle.meaning.proofs.Writing.{chosenFrom, written-permitted, written-writes}
-use Rattle.meaning.proofs.States.{Formed, formed-iff, formed-writes, Sound, laid-over, laid-exactly, next-length, value-same, mark-same, value-other, mark-other}
+use Rattle.meaning.proofs.States.{Formed, formed-iff, formed-writes, Sound, laid-over, laid-exactly, length-applied, Each, each-after-all, mark-same, mark-other}
 use Rattle.meaning.proofs.Round.{packets-low, leaves-formed}
 use Rattle.meaning.proofs.Exactly.{accepted-cut}
 use Rattle.meaning.proofs.Outputs.{wrote}
@@ -33,35 +33,6 @@ use Rattle.chip.specs.Chip.{contentAt, isAddress, obeys, obeysAll, AllAc
 abbrev Low : Write → Type 0
 Low w = w .cell .0 < cells
 
--- P of the number and the value of each marked cell
-abbrev Each : (ℕ → ℕ → Type 0) → List ℕ → Type 0
-Each P st = (c : ℕ) → c < cells → Marked st c → P c (valueAt st (cell c))
-
-each-write : (P : ℕ → ℕ → Type 0) (st : List ℕ) (w : Write) → Low w → P (w .cell .0) (w .value) → length st ≡ stateWords → Each P st → Each P (apply st w)
-unfolding apply
-each-write P st w l p n h d k m =
-    let c = w .cell .0 in
-    let v = w .value in
-    elim (ℕ-discrete d c) [
-      | yes e ↦ rw (e, value-same st n c v l) p
-      | no e ↦ rw (value-other st n c v l d k e) (h d k (omega (arith, mark-other st n c v l d e)))
-    ]
-
-length-write : (st : List ℕ) (w : Write) → Low w → length st ≡ stateWords → length (apply st w) ≡ stateWords
-unfolding apply
-length-write st w l n = next-length st n (w .cell .0) (w .value) l
-
-length-writes : (st : List ℕ) (ws : List Write) → All Low ws → length st ≡ stateWords → length (applyAll st ws) ≡ stateWords
-unfolding applyAll
-length-writes st [] a n = n
-length-writes st (w ∷ ws) a n = length-writes (apply st w) ws (a .1) (length-write st w (a .0) n)
-
-each-writes : (P : ℕ → ℕ → Type 0) (st : List ℕ) (ws : List Write) → All Low ws → All (λ w. P (w .cell .0) (w .value)) ws → length st ≡ stateWords
-    → Each P st → Each P (applyAll st ws)
-unfolding applyAll
-each-writes P st [] a b n h = h
-each-writes P st (w ∷ ws) a b n h = each-writes P (apply st w) ws (a .1) (b .1) (length-write st w (a .0) n) (each-write P st w (a .0) (b .0) n h)
-
 -- a mark never goes away
 mark-write : (st : List ℕ) (w : Write) → Low w → length st ≡ stateWords → (d : ℕ) → Marked st d → Marked (apply st w) d
 unfolding apply
@@ -73,7 +44,7 @@ mark-write st w l n d m =
 mark-writes : (st : List ℕ) (ws : List Write) → All Low ws → length st ≡ stateWords → (d : ℕ) → Marked st d → Marked (applyAll st ws) d
 unfolding applyAll
 mark-writes st [] a n d m = m
-mark-writes st (w ∷ ws) a n d m = mark-writes (apply st w) ws (a .1) (length-write st w (a .0) n) d (mark-write st w (a .0) n d m)
+mark-writes st (w ∷ ws) a n d m = mark-writes (apply st w) ws (a .1) (length-applied st (w ∷ []) ∙ n) d (mark-write st w (a .0) n d m)
 
 -- ---- the chip
 
@@ -137,25 +108,24 @@ accepted-inside grants batch st e =
     let c = accepted-cut batch grants st e in
     rw (writes-of-cut (termsOf grants) batch c) (packets-inside (termsOf grants) (c .packets) (c .permitted))
 
-length-obeys : (batch grants st chip : List ℕ) → readAnswer batch grants st .reason ≡ 0 → length chip ≡ stateWords → length (obeys chip batch) ≡ stateWords
+length-obeys : (chip batch : List ℕ) → length (obeys chip batch) ≡ length chip
 unfolding obeys
-length-obeys batch grants st chip e n = length-writes chip (writesOf batch) (accepted-low batch grants st e) n
+length-obeys chip batch = length-applied chip (writesOf batch)
 
-length-obeys-all : (grants st chip : List ℕ) (batches : List (List ℕ)) → AllAccepted grants st batches → length chip ≡ stateWords → length (obeysAll chip batches) ≡ stateWords
+length-obeys-all : (chip : List ℕ) (batches : List (List ℕ)) → length (obeysAll chip batches) ≡ length chip
 unfolding obeysAll
-length-obeys-all grants st chip [] a n = n
-length-obeys-all grants st chip (b ∷ bs) a n =
-    length-obeys-all grants (readLeaves b grants st) (obeys chip b) bs (a .1) (length-obeys b grants st chip (a .0) n)
+length-obeys-all chip [] = refl
+length-obeys-all chip (b ∷ bs) = length-obeys-all (obeys chip b) bs ∙ length-obeys chip b
 
--- what every accepted write and every marked cell has is kept
+-- what every accepted write and every marked cell has, every marked cell has after the batches
 each-obeys : (P : ℕ → ℕ → Type 0) (grants : List ℕ)
     → ((batch st : List ℕ) → readAnswer batch grants st .reason ≡ 0 → All (λ w. P (w .cell .0) (w .value)) (writesOf batch))
     → (st chip : List ℕ) (batches : List (List ℕ)) → AllAccepted grants st batches → length chip ≡ stateWords → Each P chip → Each P (obeysAll chip batches)
 unfolding obeysAll obeys
 each-obeys P grants stores st chip [] a n h = h
 each-obeys P grants stores st chip (b ∷ bs) a n h =
-    each-obeys P grants stores (readLeaves b grants st) (obeys chip b) bs (a .1) (length-obeys b grants st chip (a .0) n)
-    (each-writes P chip (writesOf b) (accepted-low b grants st (a .0)) (stores b st (a .0)) n h)
+    each-obeys P grants stores (readLeaves b grants st) (obeys chip b) bs (a .1) (length-obeys chip b ∙ n)
+    (each-after-all P chip (writesOf b) (accepted-low b grants st (a .0)) (stores b st (a .0)) n h)
 
 -- the first of what all have
 all-take : {A : Type 0} (P : A → Type 0) (k : ℕ) (xs : List A) → All P xs → All P (take k xs)
@@ -195,9 +165,9 @@ module _ (a b grants : List ℕ) (room : ℕ) (e : writeAnswer b grants room .re
         → EachAddress (Inside (grantsOf grants)) (applyAll (obeysAll (obeys a (written b)) batches) (take k (writesOf batch)))
     amid-a-batch batch ok k =
         let st = leftBy grants b batches in
-        each-writes Lies (obeysAll (obeys a (written b)) batches) (take k (writesOf batch)) (all-take Low k (writesOf batch) (accepted-low batch grants st ok))
+        each-after-all Lies (obeysAll (obeys a (written b)) batches) (take k (writesOf batch)) (all-take Low k (writesOf batch) (accepted-low batch grants st ok))
         (all-take (Stores (Inside (grantsOf grants))) k (writesOf batch) (accepted-inside grants batch st ok))
-        (length-obeys-all grants b (obeys a (written b)) batches all (switch-lays a b grants room e n .size)) after-a-switch
+        (length-obeys-all (obeys a (written b)) batches ∙ length-obeys a (written b) ∙ n) after-a-switch
 
     -- and where no memory is granted to both, it touches nothing that is granted to another program
     pub after-a-switch-apart : (theirs : List ℕ) → Apart (grantsOf grants) (grantsOf theirs)
@@ -241,12 +211,10 @@ full-stays-full-after grants st (b ∷ bs) w full =
 
 -- ---- turn after turn
 
--- the written words of a state, and the batches after them, leave a state of the chip from which the same can be said of the next turn
-takes-length : (chip : List ℕ) (t : Turn) → Proper t → length chip ≡ stateWords → length (takes chip t) ≡ stateWords
+-- a turn leaves a state of the chip from which the same can be said of the next one
+takes-length : (chip : List ℕ) (t : Turn) → length (takes chip t) ≡ length chip
 unfolding takes
-takes-length chip t p n =
-    length-obeys-all (t .grants) (t .state) (obeys chip (written (t .state))) (t .batches) (p .accepted)
-    (switch-lays chip (t .state) (t .grants) mostWritten (p .written) n .size)
+takes-length chip t = length-obeys-all (obeys chip (written (t .state))) (t .batches) ∙ length-obeys chip (written (t .state))
 
 -- whatever programs had their turns before, and whatever the chip held before them: while a program whose state marks every cell has its
 -- turn, every address on the chip lies, with its reach, inside a grant of that program
@@ -255,7 +223,7 @@ pub whose-turn : (chip : List ℕ) (before : List Turn) (t : Turn) → length ch
 unfolding takesAll takes
 whose-turn chip [] t n all p full =
     after-a-switch chip (t .state) (t .grants) mostWritten (p .written) n (λ c l m h. full c l) (t .batches) (p .accepted)
-whose-turn chip (x ∷ before) t n all p full = whose-turn (takes chip x) before t (takes-length chip x (all .0) n) (all .1) p full
+whose-turn chip (x ∷ before) t n all p full = whose-turn (takes chip x) before t (takes-length chip x ∙ n) (all .1) p full
 
 -- a well-formed chip stays so
 obeys-formed : (grants st chip : List ℕ) (batches : List (List ℕ)) → AllAccepted grants st batches → Formed chip → Formed (obeysAll chip batches)

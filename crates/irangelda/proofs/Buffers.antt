@@ -7,7 +7,7 @@ use Prim.Native.Nat.{ℕ, zero, suc, _/_, _%_, _≤_}
 use native.Mathlib.Omega.{arith}
 use lib.Dec.{eqb, leb→le}
 use lib.Bits.{bitOr}
-use lib.ListN.{length, length-set, drop-of-length-le}
+use lib.ListN.{length, drop-of-length-le}
 use mir.Facts.{and-yes, eqb-yes}
 use Rattle.laws.specs.Lists.{every, over}
 use Rattle.laws.proofs.Bits.{or-four}
@@ -17,7 +17,7 @@ use Rattle.meaning.specs.declared.Kind.the-variants.{Setting}
 use Rattle.meaning.specs.declared.Answer.{Answer}
 use Rattle.meaning.specs.Words.{wordsOf, bytesOf}
 use Rattle.meaning.specs.Grants.{Terms, termsOf, grantsFine}
-use Rattle.meaning.specs.State.{Write, wellFormed, apply, applyAll}
+use Rattle.meaning.specs.State.{wellFormed, applyAll}
 use Rattle.meaning.specs.Positions.{nextKind, nextLeft, writesOf}
 use Rattle.meaning.specs.Answers.{badState, badGrants, badBuffer, success, numberOf, provided, settle}
 use Rattle.meaning.specs.Reader.{judge, follow, run, batchAnswer, readAnswer, readLeaves}
@@ -25,6 +25,7 @@ use Rattle.meaning.specs.Writer.{written, writeAnswer}
 use Rattle.meaning.specs.Lister.{listAnswer, listLeaves}
 use Rattle.meaning.specs.Exported.{mostBytes, bufferFine, wordBufferFine, exportedRead, exportedReadLeaves, exportedWrite, exportedWriteLeaves, exportedList, exportedListLeaves}
 use Rattle.meaning.proofs.Bytes.{length-words, length-bytes}
+use Rattle.meaning.proofs.States.{length-applied}
 
 -- ---- three buffers of words
 
@@ -56,11 +57,6 @@ module _ (a b c : List ℕ) where
 -- as many as there are take the place of all
 pub over-all : (new old : List ℕ) → length new ≡ length old → over new old ≡ new
 over-all new old e = let few : length old ≤ length new = omega arith in rw (drop-of-length-le old few) (append-nil new)
-
-length-applied : (st : List ℕ) (ws : List Write) → length (applyAll st ws) ≡ length st
-unfolding applyAll apply
-length-applied st [] = refl
-length-applied st (w ∷ ws) = length-applied (apply st w) ws ∙ simp length-set
 
 -- a place lies in the batch
 run-within : (g : Terms) (kind : Kind) (k : ℕ) (ws : List ℕ) → run g kind k ws .place ≤ length ws

@@ -11,7 +11,7 @@ use lib.ListN.{length, getD, set, length-set, length-replicate, getD-replicate}
 use lib.Seq.{getD-set-same, getD-set-other, ext-getD}
 use mir.Facts.{and-yes, yes-and, leb-yes, yes-leb, eqb-yes, yes-eqb}
 use Rattle.laws.specs.Lists.{All}
-use Rattle.laws.proofs.Lists.{every-from, from-every, all-split, all-both}
+use Rattle.laws.proofs.Lists.{every-from, from-every, all-split, all-map, all-both}
 use Rattle.laws.proofs.Tests.{implies-iff}
 use Rattle.meaning.specs.declared.Cell.{Cell}
 use Rattle.meaning.specs.Registers.{cells, cell}
@@ -54,19 +54,19 @@ formed-iff st = (
 -- ---- one write
 
 module _ (st : List ℕ) (n : length st ≡ stateWords) (c v : ℕ) (l : c < cells) where
-  abbrev pub next : List ℕ
+  abbrev next : List ℕ
   next = set (set st c v) (cells + c) 1
 
-  pub next-length : length next ≡ stateWords
+  next-length : length next ≡ stateWords
   next-length = length-set (set st c v) (cells + c) 1 ∙ length-set st c v ∙ n
 
-  pub value-same : valueAt next (cell c) ≡ v
+  value-same : valueAt next (cell c) ≡ v
   value-same = getD-set-other (set st c v) (cells + c) c 1 0 (λ e. omega arith) ∙ getD-set-same st c v 0 (omega arith)
 
   pub mark-same : markAt next (cell c) ≡ 1
   mark-same = getD-set-same (set st c v) (cells + c) 1 0 (omega (arith, length-set st c v))
 
-  pub value-other : (d : ℕ) → d < cells → d ≢ c → valueAt next (cell d) ≡ valueAt st (cell d)
+  value-other : (d : ℕ) → d < cells → d ≢ c → valueAt next (cell d) ≡ valueAt st (cell d)
   value-other d k e = getD-set-other (set st c v) (cells + c) d 1 0 (λ f. omega arith) ∙ getD-set-other st c d v 0 e
 
   pub mark-other : (d : ℕ) → d ≢ c → markAt next (cell d) ≡ markAt st (cell d)
@@ -210,25 +210,42 @@ unfolding applyAll
 formed-writes st [] a f = f
 formed-writes st (w ∷ ws) a f = formed-writes (apply st w) ws (a .1) (formed-write st w (a .0) f)
 
-sound-write : (g : Terms) (st : List ℕ) (w : Write) → FineWrite g w → Sound g st → Sound g (apply st w)
+-- as many words as before
+pub length-applied : (st : List ℕ) (ws : List Write) → length (applyAll st ws) ≡ length st
+unfolding applyAll apply
+length-applied st [] = refl
+length-applied st (w ∷ ws) = length-applied (apply st w) ws ∙ length-set (set st (w .cell .0) (w .value)) (cells + w .cell .0) 1 ∙ length-set st (w .cell .0) (w .value)
+
+-- P of the number and the value of each marked cell
+abbrev pub Each : (ℕ → ℕ → Type 0) → List ℕ → Type 0
+Each P st = (c : ℕ) → c < cells → 0 < markAt st (cell c) → P c (valueAt st (cell c))
+
+each-after : (P : ℕ → ℕ → Type 0) (st : List ℕ) (w : Write) → w .cell .0 < cells → P (w .cell .0) (w .value) → length st ≡ stateWords → Each P st → Each P (apply st w)
 unfolding apply
-sound-write g st w f s =
-    let n = s .formed .size in
+each-after P st w l p n h d k m =
     let c = w .cell .0 in
     let v = w .value in
-    let l = f .low in
-    record {
-      formed = formed-write st w l (s .formed);
-      fine = λ d k m. elim (ℕ-discrete d c) [
-        | yes e ↦ rw (e, value-same st n c v l) (f .fine)
-        | no e ↦ rw (value-other st n c v l d k e) (s .fine d k (omega (arith, mark-other st n c v l d e)))
-      ];
-    }
+    elim (ℕ-discrete d c) [
+      | yes e ↦ rw (e, value-same st n c v l) p
+      | no e ↦ rw (value-other st n c v l d k e) (h d k (omega (arith, mark-other st n c v l d e)))
+    ]
+
+-- what every marked cell has, and every write, the marked cells have after the writes
+pub each-after-all : (P : ℕ → ℕ → Type 0) (st : List ℕ) (ws : List Write) → All (λ w. w .cell .0 < cells) ws → All (λ w. P (w .cell .0) (w .value)) ws → length st ≡ stateWords
+    → Each P st → Each P (applyAll st ws)
+unfolding applyAll
+each-after-all P st [] a b n h = h
+each-after-all P st (w ∷ ws) a b n h =
+    each-after-all P (apply st w) ws (a .1) (b .1) (length-applied st (w ∷ []) ∙ n) (each-after P st w (a .0) (b .0) n h)
 
 pub sound-writes : (g : Terms) (st : List ℕ) (ws : List Write) → All (FineWrite g) ws → Sound g st → Sound g (applyAll st ws)
-unfolding applyAll
-sound-writes g st [] a s = s
-sound-writes g st (w ∷ ws) a s = sound-writes g (apply st w) ws (a .1) (sound-write g st w (a .0) s)
+sound-writes g st ws a s =
+    let low = all-map (FineWrite g) (λ (w : Write). w .cell .0 < cells) (λ w f. f .low) ws a in
+    let fine = all-map (FineWrite g) (λ (w : Write). MayHold g (cell (w .cell .0)) (w .value)) (λ w f. f .fine) ws a in
+    record {
+      formed = formed-writes st ws low (s .formed);
+      fine = each-after-all (λ (c v : ℕ). MayHold g (cell c) v) st ws low fine (s .formed .size) (s .fine);
+    }
 
 pub empty-sound : (g : Terms) → Sound g empty
 empty-sound g = record { formed = empty-formed; fine = λ c l m. absurd (omega (arith, empty-at (cells + c) (omega arith))) }
