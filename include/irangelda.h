@@ -2,7 +2,8 @@
  * Irangelda: a gate in front of a graphics chip.
  *
  * A program hands the driver a batch of register writes. irangelda_read looks at every word of it, and changes the register state
- * only if the whole batch is permitted. irangelda_write gives a state back as a batch; irangelda_list gives it as text.
+ * only if the whole batch is permitted. irangelda_write gives a state back as a batch; irangelda_list gives it as text, and
+ * irangelda_read_listing gives the state of such a text.
  *
  * Every buffer is bytes and every length is in bytes. A word is 32 bits, its lowest byte first. No alignment is needed.
  *
@@ -11,9 +12,10 @@
  *            length is at most 2^32 and reach at least 1. Reach is all that the chip may touch from an address on, under every
  *            register value that the gate permits; docs/DRIVER.md says how large that is. Changed by no call.
  *   state    101 values, then 101 marks: 808 bytes. A mark is 0 or 1, and an unmarked value is 0. All bytes 0 is the empty state.
- *            Changed by irangelda_read alone, and only if it answers reason 0.
+ *            Changed by irangelda_read and irangelda_read_listing alone, and only if they answer reason 0.
  *   out      the writer's words or the lister's text, from the first byte on. Bytes past the end of what is written stay as they
  *            were.
+ *   listing  a text such as the lister makes, without a 0 byte at the end. Changed by no call.
  *
  * A word buffer (batch, grants, state, and the writer's out) has a length that is a multiple of 4. No buffer may be longer than
  * 65,536 bytes. A call that is handed another length answers reason 13.
@@ -70,15 +72,19 @@ extern "C" {
 #define IRANGELDA_ROLE_SECOND_SCALER 3u
 
 /*
- * The answer of each call is one number, place * 256 + reason. Places in a batch are counted in words, from 0.
+ * The answer of each call is one number, place * 256 + reason. Places in a batch are counted in words, from 0; places in a listing
+ * in bytes, from 0.
  *
  * Where several reasons would fit, the order is 13, 1, 2; then the reader goes through the words from the front and takes the
- * lowest number at the first bad word, with 10 last; the writer takes 12 before 11.
+ * lowest number at the first bad word, with 10 last; the writer takes 12 before 11. The listing reader gives 13, 1 or 19, in this
+ * order.
  */
 enum irangelda_reason {
-    /* Done. Place: the length of the batch in words (read), words written (write), bytes written (list). */
+    /* Done. Place: the length of the batch in words (read), words written (write), bytes written (list), the length of the listing
+       in bytes (read a listing). */
     IRANGELDA_OK = 0,
-    /* All calls: the state is not 202 words, or a mark is neither 0 nor 1, or an unmarked value is not 0. Place: 0. */
+    /* Read, write, list: the state is not 202 words, or a mark is neither 0 nor 1, or an unmarked value is not 0. Read a listing:
+       the state is not 202 words; what they are does not matter. Place: 0. */
     IRANGELDA_BAD_STATE = 1,
     /* Read, write: the list is not 0 to 64 whole grants, or a grant has another role, ends past 2^32 or has reach 0. Place: 0. */
     IRANGELDA_BAD_GRANTS = 2,
@@ -104,7 +110,10 @@ enum irangelda_reason {
        Place: the lowest such cell, 0 to 100. */
     IRANGELDA_NOT_WRITABLE = 12,
     /* All calls: a buffer is longer than 65,536 bytes, or a word buffer is not a multiple of 4 long. Place: 0. */
-    IRANGELDA_BAD_BUFFER = 13
+    IRANGELDA_BAD_BUFFER = 13,
+    /* Read a listing: the bytes are not the listing of any state, or of one with a 3D value of 2^24 or more. Place: the first byte
+       with which no listing goes on; the length of the listing if it is cut short, and so has no such byte. */
+    IRANGELDA_NOT_A_LISTING = 19
 };
 
 /* The reason and the place of an answer. */
@@ -146,6 +155,21 @@ uint64_t irangelda_write(const uint8_t *state, size_t state_len,
  */
 uint64_t irangelda_list(const uint8_t *state, size_t state_len,
                         uint8_t *out, size_t out_len);
+
+/*
+ * Reads a listing back: what irangelda_list wrote of a state, to the byte, gives that state, if its 3D values are below 2^24, as
+ * all are that a batch can write. Nothing else is taken: the count is the true one without leading zeros, the lines are in the order
+ * of the cells, hex digits are in lower case, and the first two of the eight digits of a 3D value are 0. Reason 0: the state is that
+ * of the listing. Any other reason: the state is as it was.
+ *
+ * The values are taken as they stand. No bit that must be clear, no rule for a value and no grant is looked at: irangelda_write
+ * looks at all of them, and only the words that it gives may go to the chip.
+ *
+ *   listing, listing_len    looked at. Any length up to 65,536, not only multiples of 4.
+ *   state, state_len        changed: 808 bytes. What they were before does not matter.
+ */
+uint64_t irangelda_read_listing(const uint8_t *listing, size_t listing_len,
+                                uint8_t *state, size_t state_len);
 
 #ifdef __cplusplus
 }

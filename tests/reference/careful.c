@@ -1,9 +1,10 @@
 /*
- * The three calls as a careful C programmer writes them, from docs/RULES.md alone: its rules in its order and words, each reason
+ * The four calls as a careful C programmer writes them, from docs/RULES.md alone: its rules in its order and words, each reason
  * returned where it is found. The shape is one that is quick, and the rest is left to the compiler.
  *
  * The reader goes through the batch once, works on a copy of the state and hands the copy back only when the whole batch was fine.
- * The writer and the lister have checked everything, the room too, before they put down the first byte. So a refusal changes nothing.
+ * The writer and the lister have checked everything, the room too, before they put down the first byte. The listing reader goes through
+ * the text once and fills a state of its own, which it hands over only at the end. So a refusal changes nothing.
  */
 #include "careful.h"
 #include <string.h>
@@ -14,7 +15,7 @@
 
 enum reason {
     OK, BAD_STATE, BAD_GRANTS, BAD_OFFSET, BAD_COUNT, BAD_SETTING, NO_REGISTER, BIT_SET, BAD_VALUE, NOT_GRANTED, ENDS_INSIDE,
-    NO_ROOM, NOT_WRITABLE, BAD_BUFFER
+    NO_ROOM, NOT_WRITABLE, BAD_BUFFER, NOT_A_LISTING = 19
 };
 
 enum {
@@ -698,4 +699,186 @@ uint64_t careful_list(const uint8_t *state, size_t state_len,
         return answer(0, NO_ROOM);
     uint8_t *end = put_lines(put_count(out, count), state);
     return answer((size_t)(end - out), OK);
+}
+
+/* ---- the listing reader */
+
+enum { NO_DIGIT = 16, VALUE_DIGITS = 8, VALUE_DIGITS_3D = 6 /* the others are 0 */ };
+
+static inline uint32_t digit_of(uint8_t byte)
+{
+    return byte >= '0' && byte <= '9' ? byte - (uint32_t)'0' : byte >= 'a' && byte <= 'f' ? byte - (uint32_t)'a' + 10 : NO_DIGIT;
+}
+
+/* The following look at bytes that are there. */
+
+static inline int is_text(const uint8_t *at, const char *text)
+{
+    return memcmp(at, text, strlen(text)) == 0;
+}
+
+/* Whether so many hex digits stand there, and their number. */
+static inline int is_hex(const uint8_t *at, int digits, uint32_t *number)
+{
+    *number = 0;
+    for (int i = 0; i < digits; i++) {
+        uint32_t digit = digit_of(at[i]);
+        if (digit == NO_DIGIT)
+            return 0;
+        *number = *number << 4 | digit;
+    }
+    return 1;
+}
+
+/* The cell of a 3D register, or CELLS if there is none of that name. */
+static inline size_t cell_3d(uint32_t type, uint32_t sub_type, uint32_t sub_address)
+{
+    if (type == 0x01 && sub_type == 0x00) {
+        if (sub_address == 0x3f || (sub_address >= 0x50 && sub_address <= 0x52))
+            return target_cell(sub_address);
+    } else if (type == 0x02 && sub_type < STAGES) {
+        if (sub_address == 0x50 || sub_address == 0x51)
+            return FIRST_STAGE + STAGE_SIZE * sub_type + (sub_address - 0x50);
+    } else if (type == 0x02 && sub_type >= 0x20 && sub_type < 0x20 + SAMPLES) {
+        if (sub_address >= 0x30 && sub_address <= 0x32)
+            return FIRST_SAMPLE + SAMPLE_SIZE * (sub_type - 0x20) + (sub_address - 0x30);
+    }
+    return CELLS;
+}
+
+/* The lines: the cell whose line stands there, and its value; CELLS if none does. */
+
+static inline size_t read_3d_line(const uint8_t *line, uint32_t *value)
+{
+    uint32_t type, sub_type, sub_address;
+    if (!is_text(line, "reg=") || !is_hex(line + 4, 2, &type) || line[6] != '.' || !is_hex(line + 7, 2, &sub_type) || line[9] != '.'
+        || !is_hex(line + 10, 2, &sub_address) || !is_text(line + 12, " val=") || !is_hex(line + 17, VALUE_DIGITS, value)
+        || line[25] != '\n' || !is_24_bits(*value))
+        return CELLS;
+    return cell_3d(type, sub_type, sub_address);
+}
+
+static inline size_t read_video_line(const uint8_t *line, uint32_t *value)
+{
+    uint32_t offset;
+    if (!is_text(line, "reg=") || !is_hex(line + 4, 4, &offset) || !is_text(line + 8, " val=")
+        || !is_hex(line + 13, VALUE_DIGITS, value) || line[21] != '\n')
+        return CELLS;
+    return video_cell(offset);
+}
+
+static inline size_t read_line(const uint8_t *line, size_t length, uint32_t *value)
+{
+    if (length < LINE_VIDEO)
+        return CELLS;
+    if (line[6] != '.')
+        return read_video_line(line, value);
+    return length < LINE_3D ? CELLS : read_3d_line(line, value);
+}
+
+static inline size_t line_bytes(size_t cell)
+{
+    return cell < FIRST_VIDEO ? LINE_3D : LINE_VIDEO;
+}
+
+/* ---- where a line that does not fit goes wrong */
+
+static void put_line(uint8_t *out, size_t cell)
+{
+    if (cell < FIRST_STAGE)
+        put_3d_line(out, 0x01, 0x00, target_addresses[cell], 0);
+    else if (cell < FIRST_SAMPLE)
+        put_3d_line(out, 0x02, (uint32_t)(cell - FIRST_STAGE) / STAGE_SIZE, stage_addresses[(cell - FIRST_STAGE) % STAGE_SIZE], 0);
+    else if (cell < FIRST_VIDEO)
+        put_3d_line(out, 0x02, 0x20 + (uint32_t)(cell - FIRST_SAMPLE) / SAMPLE_SIZE,
+                    sample_addresses[(cell - FIRST_SAMPLE) % SAMPLE_SIZE], 0);
+    else
+        put_video_line(out, video_offset(cell), 0);
+}
+
+/* How many of the bytes some line of this cell begins with. Its digits may be any, from where its width ends. */
+static size_t agreeing(const uint8_t *bytes, size_t length, size_t cell)
+{
+    uint8_t line[LINE_3D];
+    size_t last = line_bytes(cell) - 1, digits = cell < FIRST_VIDEO ? VALUE_DIGITS_3D : VALUE_DIGITS, i;
+    put_line(line, cell);
+    for (i = 0; i <= last && i < length; i++) {
+        int is_digit = i >= last - digits && i < last;
+        if (is_digit ? digit_of(bytes[i]) == NO_DIGIT : bytes[i] != line[i])
+            break;
+    }
+    return i;
+}
+
+/* The most of them that the line of a cell from `first` to `last` begins with. */
+static size_t most_agreeing(const uint8_t *bytes, size_t length, size_t first, size_t last)
+{
+    size_t most = 0;
+    for (size_t cell = first; cell <= last; cell++) {
+        size_t bytes_agreeing = agreeing(bytes, length, cell);
+        if (bytes_agreeing > most)
+            most = bytes_agreeing;
+    }
+    return most;
+}
+
+/* ---- a whole listing */
+
+/* Reads the first line. Answers OK, the count and where the next line begins, or refuses. */
+static inline uint64_t read_count(const uint8_t *listing, size_t length, size_t *count, size_t *next)
+{
+    static const char key[] = "cells=";
+    size_t at = 0, number = 0;
+    while (key[at] != 0) {
+        if (at == length || listing[at] != key[at])
+            return answer(at, NOT_A_LISTING);
+        at++;
+    }
+    size_t first_digit = at;
+    for (; at < length && listing[at] >= '0' && listing[at] <= '9'; at++) {
+        int leading_zero = number == 0 && at > first_digit;
+        number = 10 * number + (listing[at] - (size_t)'0');
+        if (leading_zero || number > CELLS)
+            return answer(at, NOT_A_LISTING);
+    }
+    if (at == first_digit || at == length || listing[at] != '\n')
+        return answer(at, NOT_A_LISTING);
+    *count = number;
+    *next = at + 1;
+    return OK;
+}
+
+/* Reads `count` lines from `at` to the end into an empty state. */
+static inline uint64_t read_lines(const uint8_t *listing, size_t length, size_t at, size_t count, uint8_t *state)
+{
+    size_t first = 0; /* the lowest cell that may come next */
+    for (; count > 0; count--) {
+        uint32_t value;
+        size_t last = CELLS - count; /* the highest: the lines behind it need cells too */
+        size_t cell = read_line(listing + at, length - at, &value);
+        if (cell == CELLS || cell < first || cell > last)
+            return answer(at + most_agreeing(listing + at, length - at, first, last), NOT_A_LISTING);
+        set_cell(state, cell, value);
+        first = cell + 1;
+        at += line_bytes(cell);
+    }
+    return answer(at, at == length ? OK : NOT_A_LISTING);
+}
+
+uint64_t careful_read_listing(const uint8_t *listing, size_t listing_len,
+                              uint8_t *state, size_t state_len)
+{
+    uint8_t read[STATE_BYTES] = { 0 };
+    size_t count, at;
+    if (listing_len > MOST_BYTES || !is_word_buffer(state_len))
+        return answer(0, BAD_BUFFER);
+    if (state_len != STATE_BYTES)
+        return answer(0, BAD_STATE);
+    uint64_t refusal = read_count(listing, listing_len, &count, &at);
+    if (refusal != OK)
+        return refusal;
+    uint64_t given = read_lines(listing, listing_len, at, count, read);
+    if (given % 256 == OK)
+        memcpy(state, read, STATE_BYTES);
+    return given;
 }

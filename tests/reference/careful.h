@@ -1,5 +1,5 @@
 /*
- * The three calls once more, as a careful C programmer writes them: the second opinion that tests/c holds the archive to, and the
+ * The four calls once more, as a careful C programmer writes them: the second opinion that tests/c holds the archive to, and the
  * measure of the bench. include/irangelda.h says what the calls do; nothing else is shared with the archive.
  */
 #ifndef CAREFUL_H
@@ -18,5 +18,8 @@ uint64_t careful_write(const uint8_t *state, size_t state_len,
 
 uint64_t careful_list(const uint8_t *state, size_t state_len,
                       uint8_t *out, size_t out_len);
+
+uint64_t careful_read_listing(const uint8_t *listing, size_t listing_len,
+                              uint8_t *state, size_t state_len);
 
 #endif

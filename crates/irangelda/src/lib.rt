@@ -89,3 +89,18 @@ pub extern "C" fn irangelda_list(state: &[u8], out: &mut [u8]) -> u64
     }
     number(lister::list(state, out))
 }
+
+// Reads a listing back: 13, 1 and 19, else 0 and the listing's length. The state is changed only if the whole text is a listing.
+#[no_mangle]
+pub extern "C" fn irangelda_read_listing(listing: &[u8], state: &mut [u8]) -> u64
+    ensures number { λ r. ⌜ r ≡ numberOf (exported.exportedReadListing (now (listing .entry)) (now (state .entry))) ⌝ }
+    ensures bytes { λ _. ⌜ now (state .exit) ≡ exported.exportedReadListingLeaves (now (listing .entry)) (now (state .entry)) ⌝ }
+{
+    if !word_buffer_fine(state) {
+        return BAD_BUFFER;
+    }
+    if !buffer_fine(listing) {
+        return BAD_BUFFER;
+    }
+    number(listing_reader::read_listing(listing, state))
+}

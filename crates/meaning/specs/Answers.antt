@@ -60,6 +60,10 @@ notWritable = 12
 abbrev pub badBuffer : ℕ
 badBuffer = 13
 
+-- Y19 "listing reader: the text is no listing"
+abbrev pub notListing : ℕ
+notListing = 19
+
 -- Y0 "all is done": A1 "Reason 0 is success, and any other is a refusal."
 abbrev pub success : ℕ
 success = 0

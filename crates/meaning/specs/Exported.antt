@@ -1,4 +1,4 @@
--- The three calls on bytes.
+-- The calls on bytes.
 -- C2 "In a C call every buffer is bytes, and four bytes are a word of 32 bits, the lowest byte first."
 -- Assumes nothing.
 use mathlib.Core.Bool.{Bool, _&&_}
@@ -13,6 +13,7 @@ use Rattle.meaning.specs.Answers.{badBuffer, provided, settle}
 use Rattle.meaning.specs.Reader.{readAnswer, readLeaves}
 use Rattle.meaning.specs.Writer.{written, writeAnswer}
 use Rattle.meaning.specs.Lister.{listing, listAnswer}
+use Rattle.meaning.specs.ListingReader.{listingAnswer, listingLeaves}
 
 -- Y13 "65,536 bytes"
 abbrev pub mostBytes : ℕ
@@ -57,3 +58,13 @@ exportedList st out = provided (wordBufferFine st && bufferFine out) badBuffer (
 -- the bytes of the output after the call
 unfoldable pub exportedListLeaves : List ℕ → List ℕ → List ℕ
 exportedListLeaves st out = settle (exportedList st out) (over (listing (wordsOf st)) out) out
+
+-- ---- read a listing
+
+-- C4 "Its text is bytes, its state words.": the answer, A2 "13 goes before 1"
+unfoldable pub exportedReadListing : List ℕ → List ℕ → Answer
+exportedReadListing text st = provided (wordBufferFine st && bufferFine text) badBuffer (listingAnswer text (wordsOf st))
+
+-- the bytes of the state after the call
+unfoldable pub exportedReadListingLeaves : List ℕ → List ℕ → List ℕ
+exportedReadListingLeaves text st = settle (exportedReadListing text st) (bytesOf (listingLeaves text (wordsOf st))) st

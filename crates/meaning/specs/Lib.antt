@@ -14,6 +14,8 @@ pub mod Reader
 pub mod Writer
 pub mod Text
 pub mod Lister
+pub mod Listings
+pub mod ListingReader
 pub mod Exported
 pub mod Reasons
 pub mod Fitter

@@ -18,10 +18,11 @@ use Rattle.meaning.specs.Words.{count, offset, videoOffset, following}
 use Rattle.meaning.specs.Registers.{cells, cell, isFound, findVideo, registerAt}
 use Rattle.meaning.specs.Grants.{Terms, termsOf, grantsFine}
 use Rattle.meaning.specs.Batch.{reaches, Fits, offset3D, most3D, allowed, named}
-use Rattle.meaning.specs.State.{valueAt, markAt, wellFormed}
+use Rattle.meaning.specs.State.{stateWords, valueAt, markAt, wellFormed}
 use Rattle.meaning.specs.Positions.{positionAt, goes, carries}
 use Rattle.meaning.specs.Writer.{written}
 use Rattle.meaning.specs.Lister.{listing}
+use Rattle.meaning.specs.Listings.{Listed, LongestListing}
 
 -- ---- a word at its position
 
@@ -115,3 +116,15 @@ pub data ListerGives (st : List ℕ) (room : ℕ) : ℕ → ℕ → Type 0 where
   no-room : T (wellFormed st) → room < length (listing st) → ListerGives st room 11 0
   -- Y0 "lister: the bytes written"
   done : T (wellFormed st) → length (listing st) ≤ room → ListerGives st room 0 (length (listing st))
+
+-- ---- the listing reader
+
+-- A8, Y19 and Y0 of the listing reader, for the text and what the buffer of the state held
+pub data ListingReaderGives (text old : List ℕ) : ℕ → ℕ → Type 0 where
+  -- A8 "The listing reader gives 1 if the buffer is not 202 words, and that before 19"
+  bad-state : length old ≢ stateWords → ListingReaderGives text old 1 0
+  -- Y19 "listing reader: the text is no listing | the length of the longest beginning of the text that some listing begins with"
+  not-listing : {p : ℕ} → length old ≡ stateWords → ((st : List ℕ) → ¬ Listed text st) → LongestListing text p
+      → ListingReaderGives text old 19 p
+  -- Y0 "listing reader: the length of the text"
+  done : {st : List ℕ} → length old ≡ stateWords → Listed text st → ListingReaderGives text old 0 (length text)

@@ -51,6 +51,8 @@ pub const NO_ROOM: u32 = 11;
 
 pub const NOT_WRITABLE: u32 = 12;
 
+pub const NOT_A_LISTING: u32 = 19;
+
 // And the one that the C calls answer by themselves, as the number that they answer: place 0.
 pub const BAD_BUFFER: u64 = 13;
 

@@ -1,0 +1,13 @@
+pub mod Forms
+pub mod Tells
+pub mod Lines
+pub mod Numbers
+pub mod Table
+pub mod Count
+pub mod Digits
+pub mod Decimals
+pub mod Texts
+pub mod Cells
+pub mod Listings
+pub mod Answers
+pub mod Examples
