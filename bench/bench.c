@@ -1,5 +1,5 @@
 /*
- * Calls one of the three calls a given number of times on one of the bench's inputs: bench WHO LINE TIMES. WHO is `ours` (the
+ * Calls one of the four calls a given number of times on one of the bench's inputs: bench WHO LINE TIMES. WHO is `ours` (the
  * archive), `careful` (tests/reference/careful.c) or `nothing` (functions that return at once, so that what the loop itself needs can
  * be taken off). bench/run counts the instructions from outside.
  */
@@ -13,18 +13,20 @@
 typedef uint64_t reads(const uint8_t *, size_t, const uint8_t *, size_t, uint8_t *, size_t);
 typedef uint64_t writes(const uint8_t *, size_t, const uint8_t *, size_t, uint8_t *, size_t);
 typedef uint64_t lists(const uint8_t *, size_t, uint8_t *, size_t);
+typedef uint64_t reads_listing(const uint8_t *, size_t, uint8_t *, size_t);
 
 struct calls {
     const char *who;
     reads *read;
     writes *write;
     lists *list;
+    reads_listing *read_listing;
 };
 
 static const struct calls all_calls[] = {
-    { "ours", irangelda_read, irangelda_write, irangelda_list },
-    { "careful", careful_read, careful_write, careful_list },
-    { "nothing", nothing_of_six, nothing_of_six, nothing_of_four }
+    { "ours", irangelda_read, irangelda_write, irangelda_list, irangelda_read_listing },
+    { "careful", careful_read, careful_write, careful_list, careful_read_listing },
+    { "nothing", nothing_of_six, nothing_of_six, nothing_of_four, nothing_of_four }
 };
 
 enum { CELLS = IRANGELDA_CELLS, LONG_WORDS = 16384 };
@@ -33,8 +35,8 @@ enum { CELLS = IRANGELDA_CELLS, LONG_WORDS = 16384 };
 #define LENT _Alignas(64) static
 
 LENT uint8_t batch[4 * LONG_WORDS], grants[IRANGELDA_GRANTS_BYTES_MAX], state[IRANGELDA_STATE_BYTES], out[4096];
-LENT uint8_t first_state[IRANGELDA_STATE_BYTES];
-static size_t batch_words, grant_count;
+LENT uint8_t first_state[IRANGELDA_STATE_BYTES], listing[IRANGELDA_LIST_BYTES_ENOUGH];
+static size_t batch_words, grant_count, listing_bytes;
 
 static void put_word(uint8_t *bytes, size_t i, uint32_t word)
 {
@@ -237,7 +239,7 @@ static void add_long_video(void)
 
 /* ---- the lines of the table */
 
-enum kind { READ, WRITE, LIST };
+enum kind { READ, WRITE, LIST, READ_LISTING };
 
 struct line {
     const char *name;
@@ -324,6 +326,24 @@ static void read_full_with_64_below(void)
     from_empty(full_with_64_below);
 }
 
+/* The listing of the state that `prepare` makes, to be read over the empty one. */
+static void listing_of(void (*prepare)(void))
+{
+    prepare();
+    listing_bytes = (size_t)(careful_list(first_state, sizeof first_state, listing, sizeof listing) / 256);
+    memset(first_state, 0, sizeof first_state);
+}
+
+static void full_listing(void)
+{
+    listing_of(full_with_3);
+}
+
+static void one_cell_listing(void)
+{
+    listing_of(one_cell);
+}
+
 static void long_with_3(void)
 {
     add_long_3d(add_mixed);
@@ -376,7 +396,9 @@ static const struct line lines[] = {
     { "write-full-64-below", WRITE, full_with_64_below, 184 },
     { "write-one", WRITE, one_cell, 3 },
     { "list-full", LIST, full_with_3, 2568 },
-    { "list-one", LIST, one_cell, 34 }
+    { "list-one", LIST, one_cell, 34 },
+    { "read-listing-full", READ_LISTING, full_listing, 2568 },
+    { "read-listing-one", READ_LISTING, one_cell_listing, 34 }
 };
 
 static uint64_t call(const struct calls *calls, enum kind kind)
@@ -387,8 +409,10 @@ static uint64_t call(const struct calls *calls, enum kind kind)
         return calls->read(batch, 4 * batch_words, grants, 16 * grant_count, state, sizeof state);
     case WRITE:
         return calls->write(state, sizeof state, grants, 16 * grant_count, out, IRANGELDA_WRITE_BYTES_ENOUGH);
-    default:
+    case LIST:
         return calls->list(state, sizeof state, out, IRANGELDA_LIST_BYTES_ENOUGH);
+    default:
+        return calls->read_listing(listing, listing_bytes, state, sizeof state);
     }
 }
 

@@ -6,6 +6,7 @@ void readings(void);   /* the cases of docs/RULES.md and likely slips, with the 
 void registers(void);  /* every register lands in its cell; every must-be-clear bit; every value rule */
 void writings(void);   /* the writer's exact words and the lister's exact bytes; there and back */
 void borders(void);    /* every kind of word at places where pieces might begin */
+void relistings(void); /* listings read back, and listings damaged in every way, against what some listing begins with */
 void limits(void);     /* lengths around reason 13's limits, and the order of 13, 1 and 2 */
 void lendings(void);   /* every alignment, null pointers, and lengths that no buffer has */
 void made_up(void);    /* many made-up calls, on which the archive and careful.c agree */

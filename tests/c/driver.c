@@ -264,12 +264,51 @@ static void leftover(void)
     expect(turn == &captions && address_on_chip(1) == CHART, "driver: the chip forgets by itself");
 }
 
+/* ---- listings */
+
+static enum outcome restore_text(const char *text, uint8_t *state)
+{
+    reason = place = 0;
+    return restore((const uint8_t *)text, strlen(text), &chart, state);
+}
+
+/* A state that is kept comes back from its listing, over whatever was there; what is no listing, or may not be written, is told. */
+static void listings(void)
+{
+    uint8_t text[IRANGELDA_LIST_BYTES_ENOUGH], state[STATE_BYTES], before[STATE_BYTES];
+    start(&chart, CHART);
+    start(&captions, CAPTIONS);
+    expect(SEND(&chart, one_stage) == DONE, "driver: a batch before the listing");
+    expect(irangelda_list(chart.state, STATE_BYTES, text, sizeof text) == sizeof text * 256, "driver: the listing of a full state");
+    unsigned puts_before = ring_puts;
+    struct client kept = chart, others = captions;
+
+    memset(state, 0xee, STATE_BYTES);
+    nothing_happens(restore(text, sizeof text, &chart, state), DONE, &kept, &chart, puts_before, "the chart's listing");
+    expect(memcmp(state, chart.state, STATE_BYTES) == 0, "driver: another state comes back");
+    nothing_happens(restore(text, sizeof text, &captions, state), REFUSED, &others, &captions, puts_before, "the chart's listing for the captions");
+    expect(reason == IRANGELDA_NOT_WRITABLE && place == 1, "driver: the chart's target for the captions, from a listing: %u at %u", reason, place);
+
+    memset(state, 0xee, STATE_BYTES);
+    memcpy(before, state, STATE_BYTES);
+    nothing_happens(restore(text, sizeof text - 7, &chart, state), REFUSED, &kept, &chart, puts_before, "a listing cut short");
+    expect(reason == IRANGELDA_NOT_A_LISTING && place == sizeof text - 7, "driver: a listing cut short: %u at %u", reason, place);
+    expect(restore_text("cells=0\r\n", state) == REFUSED && reason == IRANGELDA_NOT_A_LISTING && place == 7, "driver: 0Dh: %u at %u", reason, place);
+    expect(restore_text("cells=0\n\n", state) == REFUSED && reason == IRANGELDA_NOT_A_LISTING && place == 8, "driver: a line more: %u at %u", reason,
+           place);
+    expect(memcmp(state, before, STATE_BYTES) == 0, "driver: a refused listing left something");
+    expect(restore_text("cells=1\nreg=2210 val=00000003\n", state) == REFUSED && reason == IRANGELDA_NOT_WRITABLE && place == 86,
+           "driver: a value that may not be written: %u at %u", reason, place);
+    expect(word_at(state, 86) == 3 && word_at(state, CELLS + 86) == 1, "driver: the state of a listing that may not be written");
+}
+
 int main(void)
 {
     turns();
     failures_change_nothing();
     houses();
     leftover();
+    listings();
     if (failures != 0) {
         printf("the page for drivers: %lu of %lu checks failed\n", failures, checks);
         return 1;

@@ -7,13 +7,14 @@
 #include "words.h"
 #include <string.h>
 
-enum { LAST = BUFFERS - 1, ROOM = 4096, FULL_WORDS = IRANGELDA_WRITE_WORDS_ENOUGH };
+enum { LAST = BUFFERS - 1, ROOM = 4096, FULL_WORDS = IRANGELDA_WRITE_WORDS_ENOUGH, FULL_TEXT = IRANGELDA_LIST_BYTES_ENOUGH };
 
 /* Requests from K1 and from a full state, and what is wrong in the bad ones. */
 static uint8_t k1_batch[12], k1_state[STATE_BYTES], k1_grant[16], short_grant[16];
 static uint8_t full_batch[4 * FULL_WORDS], bad_batch[4 * FULL_WORDS];
 static uint8_t full_state[STATE_BYTES], bad_cell[STATE_BYTES], bad_state[STATE_BYTES];
 static uint8_t grants[IRANGELDA_GRANTS_BYTES_MAX], bad_grants[IRANGELDA_GRANTS_BYTES_MAX], out[ROOM];
+static uint8_t k1_listing[34], full_listing[FULL_TEXT + 1], bad_listing[FULL_TEXT];
 static const uint8_t empty[STATE_BYTES];
 
 struct trial {
@@ -46,11 +47,21 @@ static const struct trial trials[] = {
       IRANGELDA_BAD_GRANTS, 0 },
     { "a bad last mark", { WRITE, { { bad_state, STATE_BYTES }, { grants, sizeof grants }, { out, ROOM } } }, IRANGELDA_BAD_STATE, 0 },
     { "K1", { LIST, { { k1_state, STATE_BYTES }, { NULL, 0 }, { out, 40 } } }, IRANGELDA_OK, 34 },
-    { "a full state", { LIST, { { full_state, STATE_BYTES }, { NULL, 0 }, { out, ROOM } } },
-      IRANGELDA_OK, IRANGELDA_LIST_BYTES_ENOUGH },
-    { "a byte too little", { LIST, { { full_state, STATE_BYTES }, { NULL, 0 }, { out, IRANGELDA_LIST_BYTES_ENOUGH - 1 } } },
-      IRANGELDA_NO_ROOM, 0 },
-    { "a bad last mark", { LIST, { { bad_state, STATE_BYTES }, { NULL, 0 }, { out, ROOM } } }, IRANGELDA_BAD_STATE, 0 }
+    { "a full state", { LIST, { { full_state, STATE_BYTES }, { NULL, 0 }, { out, ROOM } } }, IRANGELDA_OK, FULL_TEXT },
+    { "a byte too little", { LIST, { { full_state, STATE_BYTES }, { NULL, 0 }, { out, FULL_TEXT - 1 } } }, IRANGELDA_NO_ROOM, 0 },
+    { "a bad last mark", { LIST, { { bad_state, STATE_BYTES }, { NULL, 0 }, { out, ROOM } } }, IRANGELDA_BAD_STATE, 0 },
+    { "K1", { READ_LISTING, { { k1_listing, 34 }, { NULL, 0 }, { full_state, STATE_BYTES } } }, IRANGELDA_OK, 34 },
+    { "a full state", { READ_LISTING, { { full_listing, FULL_TEXT }, { NULL, 0 }, { out, STATE_BYTES } } }, IRANGELDA_OK, FULL_TEXT },
+    { "a bad last mark before", { READ_LISTING, { { full_listing, FULL_TEXT }, { NULL, 0 }, { bad_state, STATE_BYTES } } },
+      IRANGELDA_OK, FULL_TEXT },
+    { "a byte too many", { READ_LISTING, { { full_listing, FULL_TEXT + 1 }, { NULL, 0 }, { out, STATE_BYTES } } },
+      IRANGELDA_NOT_A_LISTING, FULL_TEXT },
+    { "a listing cut short", { READ_LISTING, { { full_listing, FULL_TEXT - 1 }, { NULL, 0 }, { out, STATE_BYTES } } },
+      IRANGELDA_NOT_A_LISTING, FULL_TEXT - 1 },
+    { "a bad last digit", { READ_LISTING, { { bad_listing, FULL_TEXT }, { NULL, 0 }, { out, STATE_BYTES } } },
+      IRANGELDA_NOT_A_LISTING, FULL_TEXT - 2 },
+    { "a state too short", { READ_LISTING, { { full_listing, FULL_TEXT }, { NULL, 0 }, { out, STATE_BYTES - 4 } } },
+      IRANGELDA_BAD_STATE, 0 }
 };
 
 enum { TRIALS = sizeof trials / sizeof *trials };
@@ -65,15 +76,17 @@ static void fill_grants(void)
     }
 }
 
-/* The words of the full state are the reference's. */
+/* The words and the listing of the full state are the reference's. */
 static void fill(void)
 {
     static struct outcome written;
     static const struct request write_full = { WRITE, { { full_state, STATE_BYTES }, { grants, sizeof grants }, { out, ROOM } } };
+    static const struct request list_full = { LIST, { { full_state, STATE_BYTES }, { NULL, 0 }, { out, ROOM } } };
     put_words(k1_batch, (const uint32_t[]){ 0x0002043c, 0x00010000, 0x50001000 }, 3);
     put_words(k1_grant, (const uint32_t[]){ 1, 0x00100000, 0x00080000, 0x00080000 }, 4);
     put_words(short_grant, (const uint32_t[]){ 1, 0x00100000, 0x00080000, 0x00080001 }, 4);
     set_cell(k1_state, 1, 0x1000);
+    memcpy(k1_listing, "cells=1\nreg=01.00.50 val=00001000\n", sizeof k1_listing);
     for (size_t cell = 0; cell < CELLS; cell++)
         set_cell(full_state, cell, role_of(cell) == NO_ROLE ? value_without_address(cell, 0x2b0a1f35u + 77 * (uint32_t)cell)
                                                             : value_with_address(cell, 0x01234500 + 0x100 * (uint32_t)cell));
@@ -90,6 +103,11 @@ static void fill(void)
     put_word(bad_state, 2 * CELLS - 1, 2);
     memcpy(bad_grants, grants, sizeof grants);
     put_word(bad_grants, sizeof grants / 4 - 1, 0);
+    perform(&parties[CAREFUL], &list_full, &written);
+    memcpy(full_listing, written.after, FULL_TEXT);
+    full_listing[FULL_TEXT] = '\n';
+    memcpy(bad_listing, full_listing, FULL_TEXT);
+    bad_listing[FULL_TEXT - 2] = 'F';
 }
 
 static struct outcome outcome;
@@ -128,7 +146,8 @@ static void alignments(const struct party *party, const struct trial *trial)
 
 enum { FIRST = 1, GRANTS = 2, CHANGED = 4 };
 
-/* K1, with nothing lent in place of some buffers; or the empty state, which needs no words but a line. */
+/* K1, with nothing lent in place of some buffers; or the empty state, which needs no words but a line. To the listing reader the state is
+   what was there before. */
 static const struct {
     const char *name;
     enum kind kind;
@@ -156,7 +175,10 @@ static const struct {
     { "no state", LIST, k1_state, FIRST, IRANGELDA_BAD_STATE, 0 },
     { "no room", LIST, k1_state, CHANGED, IRANGELDA_NO_ROOM, 0 },
     { "nothing", LIST, k1_state, FIRST | CHANGED, IRANGELDA_BAD_STATE, 0 },
-    { "empty, no room", LIST, empty, CHANGED, IRANGELDA_NO_ROOM, 0 }
+    { "empty, no room", LIST, empty, CHANGED, IRANGELDA_NO_ROOM, 0 },
+    { "no listing", READ_LISTING, k1_state, FIRST, IRANGELDA_NOT_A_LISTING, 0 },
+    { "no state", READ_LISTING, k1_state, CHANGED, IRANGELDA_BAD_STATE, 0 },
+    { "nothing", READ_LISTING, k1_state, FIRST | CHANGED, IRANGELDA_BAD_STATE, 0 }
 };
 
 static struct request from_k1(enum kind kind, const uint8_t *state)
@@ -166,8 +188,10 @@ static struct request from_k1(enum kind kind, const uint8_t *state)
         return (struct request){ READ, { { k1_batch, 12 }, { k1_grant, 16 }, { state, STATE_BYTES } } };
     case WRITE:
         return (struct request){ WRITE, { { state, STATE_BYTES }, { k1_grant, 16 }, { out, 12 } } };
-    default:
+    case LIST:
         return (struct request){ LIST, { { state, STATE_BYTES }, { NULL, 0 }, { out, 34 } } };
+    default:
+        return (struct request){ READ_LISTING, { { k1_listing, 34 }, { NULL, 0 }, { state, STATE_BYTES } } };
     }
 }
 
@@ -227,7 +251,7 @@ static void told_too_long(const struct party *party, enum kind kind, unsigned sa
 static void lengths_of_no_buffer(const struct party *party, enum kind kind)
 {
     for (unsigned said = 1; said <= (FIRST | GRANTS | CHANGED); said++) {
-        if (kind == LIST && (said & GRANTS) != 0)
+        if (!takes_grants(kind) && (said & GRANTS) != 0)
             continue;
         for (size_t which = 0; which < TOO_MUCH + TOO_LONG; which++) {
             told_too_long(party, kind, said, which, AT_FENCE);

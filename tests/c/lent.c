@@ -15,11 +15,21 @@
 enum { PAGE = 4096, GUARD = 64, GUARD_BYTE = 0x5c, PAINT = 0xa5, STACK_BYTES = 4 * PAGE, SIGNAL_BYTES = 16 * PAGE, RETURN_ADDRESS = 8 };
 
 const struct party parties[PARTIES] = {
-    [ARCHIVE] = { "archive", irangelda_read, irangelda_write, irangelda_list },
-    [CAREFUL] = { "careful", careful_read, careful_write, careful_list }
+    [ARCHIVE] = { "archive", irangelda_read, irangelda_write, irangelda_list, irangelda_read_listing },
+    [CAREFUL] = { "careful", careful_read, careful_write, careful_list, careful_read_listing }
 };
 
-const char *const kind_names[KINDS] = { "read", "write", "list" };
+const char *const kind_names[KINDS] = { [READ] = "read", [WRITE] = "write", [LIST] = "list", [READ_LISTING] = "read listing" };
+
+int takes_grants(enum kind kind)
+{
+    return kind == READ || kind == WRITE;
+}
+
+int is_text_buffer(enum kind kind, size_t buffer)
+{
+    return (kind == LIST && buffer == BUFFERS - 1) || (kind == READ_LISTING && buffer == 0);
+}
 
 /* ---- memory between two pages that cannot be touched */
 
@@ -89,7 +99,7 @@ static int same(const struct place *place, struct bytes bytes, size_t from)
 
 /* ---- stacks */
 
-static const struct party nobody = { "nobody", nothing_of_six, nothing_of_six, nothing_of_four };
+static const struct party nobody = { "nobody", nothing_of_six, nothing_of_six, nothing_of_four, nothing_of_four };
 
 /* A stack for each party and kind of call, and one for nobody. Painted once: what is left of the paint tells the deepest use. */
 static uint8_t *stacks[PARTIES + 1][KINDS];
@@ -135,8 +145,11 @@ static void call(void)
     case WRITE:
         under_way.answer = party->write(p[0].at, p[0].told, p[1].at, p[1].told, p[2].at, p[2].told);
         break;
-    default:
+    case LIST:
         under_way.answer = party->list(p[0].at, p[0].told, p[2].at, p[2].told);
+        break;
+    default:
+        under_way.answer = party->read_listing(p[0].at, p[0].told, p[2].at, p[2].told);
     }
 }
 
@@ -174,7 +187,14 @@ static void prepare_for_touches(void)
 static size_t bytes_written(enum kind kind, uint64_t answer)
 {
     size_t place = IRANGELDA_PLACE(answer);
-    return kind == READ ? IRANGELDA_STATE_BYTES : kind == WRITE ? 4 * place : place;
+    switch (kind) {
+    case WRITE:
+        return 4 * place;
+    case LIST:
+        return place;
+    default:
+        return IRANGELDA_STATE_BYTES;
+    }
 }
 
 static void look_around(const struct request *request)

@@ -9,7 +9,7 @@
 #include <stddef.h>
 #include <stdint.h>
 
-enum kind { READ, WRITE, LIST, KINDS };
+enum kind { READ, WRITE, LIST, READ_LISTING, KINDS };
 
 /* The longest buffer of any test is a little longer than the calls take. */
 enum { BUFFERS = 3, MOST_LENT = 65536 + 64 };
@@ -19,7 +19,8 @@ struct bytes {
     size_t length;
 };
 
-/* Read: batch, grants, state. Write: state, grants, out. List: state, nothing, out. The last is the one that the call may change. */
+/* Read: batch, grants, state. Write: state, grants, out. List: state, nothing, out. Read a listing: listing, nothing, state. The last is
+   the one that the call may change. */
 struct request {
     enum kind kind;
     struct bytes lent[BUFFERS];
@@ -37,11 +38,18 @@ struct party {
     uint64_t (*read)(const uint8_t *, size_t, const uint8_t *, size_t, uint8_t *, size_t);
     uint64_t (*write)(const uint8_t *, size_t, const uint8_t *, size_t, uint8_t *, size_t);
     uint64_t (*list)(const uint8_t *, size_t, uint8_t *, size_t);
+    uint64_t (*read_listing)(const uint8_t *, size_t, uint8_t *, size_t);
 };
 
 enum { ARCHIVE, CAREFUL, PARTIES };
 extern const struct party parties[PARTIES];
 extern const char *const kind_names[KINDS];
+
+/* The second buffer of a kind of call is a grant list, or there is none. */
+int takes_grants(enum kind kind);
+
+/* A buffer of words has a length that is a multiple of 4; one of text has any. */
+int is_text_buffer(enum kind kind, size_t buffer);
 
 void prepare_lending(void);
 

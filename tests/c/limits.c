@@ -6,18 +6,22 @@
 
 enum { LENT_WORDS = MOST_LENT / 4, OK = IRANGELDA_OK, LAST = BUFFERS - 1 };
 
-/* Contents that are fine at any length at which they can be: writes of 2208; the same grant again and again; a state with 2208. */
-static uint8_t batch[MOST_LENT], grants[MOST_LENT], state[MOST_LENT], out[MOST_LENT];
+/* Contents that are fine at any length at which they can be: writes of 2208; the same grant again and again; a state with 2208, and its
+   listing. */
+static uint8_t batch[MOST_LENT], grants[MOST_LENT], state[MOST_LENT], out[MOST_LENT], listing[MOST_LENT];
 
 static void fill(void)
 {
     static const uint32_t grant[4] = { 1, 0x1000, 0x1000, 1 };
+    static const char text[] = "cells=1\nreg=2208 val=00000007\n";
     for (size_t i = 0; i < LENT_WORDS; i++) {
         put_word(batch, i, i % 2 == 0 ? 0x00012208 : 0x00000007);
         put_word(grants, i, grant[i % 4]);
         put_word(out, i, 0xeeeeeeee);
     }
     set_cell(state, 84, 7);
+    memset(listing, '\n', sizeof listing);
+    memcpy(listing, text, strlen(text));
 }
 
 static struct outcome outcome;
@@ -38,14 +42,22 @@ static struct request fine(enum kind kind)
         return (struct request){ READ, { { batch, 8 }, { grants, 16 }, { state, STATE_BYTES } } };
     case WRITE:
         return (struct request){ WRITE, { { state, STATE_BYTES }, { grants, 16 }, { out, 8 } } };
-    default:
+    case LIST:
         return (struct request){ LIST, { { state, STATE_BYTES }, { NULL, 0 }, { out, 30 } } };
+    default:
+        return (struct request){ READ_LISTING, { { listing, 30 }, { NULL, 0 }, { state, STATE_BYTES } } };
     }
 }
 
 static uint32_t fine_place(enum kind kind)
 {
-    return kind == LIST ? 30 : 2;
+    return takes_grants(kind) ? 2 : 30;
+}
+
+/* Which buffer is the state. */
+static size_t state_buffer(enum kind kind)
+{
+    return kind == READ || kind == READ_LISTING ? LAST : 0;
 }
 
 /* ---- one buffer's length at a time */
@@ -98,7 +110,7 @@ static void state_lengths(const struct party *party, enum kind kind)
         { 808, OK, fine_place(kind) }, { 809, 13, 0 }, { 810, 13, 0 }, { 811, 13, 0 }, { 812, 1, 0 }, { 1616, 1, 0 },
         { 65532, 1, 0 }, { 65536, 1, 0 }, NOT_WHOLE_WORDS, TOO_LONG
     };
-    LENGTHS(party, kind, kind == READ ? LAST : 0, list);
+    LENGTHS(party, kind, state_buffer(kind), list);
 }
 
 static void writer_room(const struct party *party)
@@ -119,6 +131,18 @@ static void lister_room(const struct party *party)
         { 65533, OK, 30 }, { 65534, OK, 30 }, { 65535, OK, 30 }, { 65536, OK, 30 }, TOO_LONG
     };
     LENGTHS(party, LIST, LAST, list);
+}
+
+/* Nor a listing's: what is cut short gives its length, and what goes on behind the end gives the end. */
+static void listing_lengths(const struct party *party)
+{
+    static const struct length list[] = {
+        { 0, 19, 0 }, { 1, 19, 1 }, { 2, 19, 2 }, { 3, 19, 3 }, { 4, 19, 4 }, { 7, 19, 7 }, { 8, 19, 8 }, { 27, 19, 27 },
+        { 28, 19, 28 }, { 29, 19, 29 }, { 30, OK, 30 }, { 31, 19, 30 }, { 32, 19, 30 }, { 33, 19, 30 }, { 2567, 19, 30 },
+        { 2568, 19, 30 }, { 2569, 19, 30 }, { 65532, 19, 30 }, { 65533, 19, 30 }, { 65534, 19, 30 }, { 65535, 19, 30 },
+        { 65536, 19, 30 }, TOO_LONG
+    };
+    LENGTHS(party, READ_LISTING, 0, list);
 }
 
 /* ---- the order of 13, 1, 2 and the rest */
@@ -153,10 +177,10 @@ static void thirteen_first(const struct party *party, struct request all_wrong)
         struct request longer = as_long_as(all_wrong, buffer, 65540), odd = as_long_as(all_wrong, buffer, 7);
         longer.lent[buffer].at = batch;
         odd.lent[buffer].at = batch;
-        if (all_wrong.kind == LIST && buffer == 1)
+        if (buffer == 1 && !takes_grants(all_wrong.kind))
             continue;
         answers(party, "13 first", &longer, 0, 13);
-        if (all_wrong.kind != LIST || buffer != LAST)
+        if (!is_text_buffer(all_wrong.kind, buffer))
             answers(party, "13 first", &odd, 0, 13);
     }
 }
@@ -190,26 +214,35 @@ static void lister_order(const struct party *party)
     answers(party, "11", &no_room, 0, 11);
 }
 
-/* ---- each word of the state, spoilt in turn */
+static void listing_reader_order(const struct party *party)
+{
+    struct request listing_wrong = with(fine(READ_LISTING), 0, batch), all_wrong = as_long_as(listing_wrong, LAST, STATE_BYTES - 4);
+    thirteen_first(party, all_wrong);
+    answers(party, "1 before 19", &all_wrong, 0, 1);
+    answers(party, "19", &listing_wrong, 0, 19);
+}
+
+/* ---- each word of the state, spoilt in turn: 1, but for the listing reader, to which it does not matter */
 
 static void spoilt_states(const struct party *party, enum kind kind)
 {
     static const uint32_t bad_marks[] = { 2, 3, 0x100, 0x80000000, 0xffffffff };
     static const uint32_t bad_values[] = { 1, 0x80, 0x80000000, 0xffffffff };
-    size_t buffer = kind == READ ? LAST : 0;
+    unsigned reason = kind == READ_LISTING ? OK : 1;
+    uint32_t place = kind == READ_LISTING ? fine_place(kind) : 0;
     uint8_t spoilt[STATE_BYTES];
-    struct request request = with(fine(kind), buffer, spoilt);
+    struct request request = with(fine(kind), state_buffer(kind), spoilt);
     for (size_t cell = 0; cell < CELLS; cell++) {
         for (size_t i = 0; i < sizeof bad_marks / sizeof *bad_marks; i++) {
             memcpy(spoilt, state, STATE_BYTES);
             put_word(spoilt, CELLS + cell, bad_marks[i]);
-            answers(party, "a bad mark", &request, 0, 1);
+            answers(party, "a bad mark", &request, place, reason);
         }
         for (size_t i = 0; i < sizeof bad_values / sizeof *bad_values; i++) {
             memcpy(spoilt, state, STATE_BYTES);
             put_word(spoilt, CELLS + cell, 0);
             put_word(spoilt, cell, bad_values[i]);
-            answers(party, "a value without a mark", &request, 0, 1);
+            answers(party, "a value without a mark", &request, place, reason);
         }
     }
 }
@@ -238,9 +271,11 @@ void limits(void)
         batch_lengths(party);
         writer_room(party);
         lister_room(party);
+        listing_lengths(party);
         reader_order(party);
         writer_order(party);
         lister_order(party);
+        listing_reader_order(party);
         for (int kind = 0; kind < KINDS; kind++) {
             state_lengths(party, (enum kind)kind);
             spoilt_states(party, (enum kind)kind);

@@ -6,7 +6,7 @@
 #include <stdio.h>
 #include <string.h>
 
-enum { READS = 70000, WRITES = 50000, LISTS = 30000, REASONS = 14, MANY = 100 };
+enum { READS = 70000, WRITES = 50000, LISTS = 30000, READ_LISTINGS = 50000, REASONS = 20, MANY = 100 };
 
 static unsigned long given[KINDS][REASONS];
 
@@ -14,7 +14,8 @@ static unsigned long given[KINDS][REASONS];
 static const unsigned can_give[KINDS] = {
     1u << 0 | 1u << 1 | 1u << 2 | 1u << 3 | 1u << 4 | 1u << 5 | 1u << 6 | 1u << 7 | 1u << 8 | 1u << 9 | 1u << 10 | 1u << 13,
     1u << 0 | 1u << 1 | 1u << 2 | 1u << 11 | 1u << 12 | 1u << 13,
-    1u << 0 | 1u << 1 | 1u << 11 | 1u << 13
+    1u << 0 | 1u << 1 | 1u << 11 | 1u << 13,
+    1u << 0 | 1u << 1 | 1u << 13 | 1u << 19
 };
 
 static struct grants grants;
@@ -23,6 +24,7 @@ static uint32_t state[2 * CELLS];
 
 /* The bytes that are handed over. */
 static uint8_t batch_bytes[MOST_LENT], grant_bytes[4 * MOST_GRANT_WORDS], state_bytes[STATE_BYTES + 64], out_bytes[MOST_LENT];
+static uint8_t text_bytes[MOST_LENT];
 
 static struct outcome ours, theirs;
 
@@ -167,16 +169,53 @@ static void made_up_list(void)
     both_agree(&request);
 }
 
+/* The careful listing of a state, which may be one with values that no listing has. */
+static size_t listing_of_a_state(void)
+{
+    grants_lent();
+    state_lent(6);
+    struct request request = { LIST, { { state_bytes, STATE_BYTES }, { NULL, 0 }, { out_bytes, IRANGELDA_LIST_BYTES_ENOUGH } } };
+    perform(&parties[CAREFUL], &request, &theirs);
+    size_t length = theirs.answer % 256 == IRANGELDA_OK ? theirs.answer / 256 : 0;
+    memcpy(text_bytes, theirs.after, length);
+    return length;
+}
+
+/* The buffer of the state holds something before that is no state. */
+static void made_up_read_listing(void)
+{
+    size_t length = listing_of_a_state();
+    for (int times = once_in(4) ? 0 : once_in(4) ? 2 : 1; times > 0 && length > 0; times--)
+        length = damage_text(text_bytes, length);
+    if (once_in(200))
+        length = IRANGELDA_BUFFER_BYTES_MAX + below(3);
+    fill_room(STATE_BYTES + 64);
+    struct request request = { READ_LISTING,
+                               { { text_bytes, length }, { NULL, 0 }, { out_bytes, some_length(STATE_BYTES, STATE_BYTES + 64) } } };
+    both_agree(&request);
+}
+
+/* No call can give 14 to 18. */
+static int is_reason(int reason)
+{
+    unsigned calls = 0;
+    for (int kind = 0; kind < KINDS; kind++)
+        calls |= can_give[kind];
+    return (calls >> reason & 1) != 0;
+}
+
 static void print_counts(void)
 {
-    printf("made-up calls by reason:\n%6s", "");
+    printf("made-up calls by reason:\n%12s", "");
     for (int reason = 0; reason < REASONS; reason++)
-        printf(" %7d", reason);
+        if (is_reason(reason))
+            printf(" %7d", reason);
     printf("\n");
     for (int kind = 0; kind < KINDS; kind++) {
-        printf("%6s", kind_names[kind]);
+        printf("%12s", kind_names[kind]);
         for (int reason = 0; reason < REASONS; reason++)
-            printf(" %7lu", given[kind][reason]);
+            if (is_reason(reason))
+                printf(" %7lu", given[kind][reason]);
         printf("\n");
     }
 }
@@ -200,6 +239,8 @@ void made_up(void)
         made_up_write();
     for (int i = 0; i < LISTS; i++)
         made_up_list();
+    for (int i = 0; i < READ_LISTINGS; i++)
+        made_up_read_listing();
     print_counts();
     look_at_counts();
 }

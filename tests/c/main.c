@@ -7,7 +7,7 @@
 /* No call may use more; ours are held to less. */
 enum { MOST_STACK = 4096 };
 
-static const size_t most_of_ours[KINDS] = { [READ] = 2000, [WRITE] = 2000, [LIST] = 1200 };
+static const size_t most_of_ours[KINDS] = { [READ] = 2000, [WRITE] = 2000, [LIST] = 1200, [READ_LISTING] = 1600 };
 
 static void stacks(void)
 {
@@ -33,6 +33,7 @@ int main(void)
     part("readings", readings);
     part("registers", registers);
     part("writings", writings);
+    part("relistings", relistings);
     part("borders", borders);
     part("limits", limits);
     part("lendings", lendings);

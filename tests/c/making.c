@@ -272,3 +272,63 @@ void damage_state(uint32_t *state)
             state[cell] &= 0xffffff;
     }
 }
+
+/* ---- listings */
+
+static uint8_t some_byte(void)
+{
+    static const char in_listings[] = "0123456789abcdefcellsregval=. \n";
+    uint32_t any = chance();
+    return once_in(4) ? (uint8_t)(any >> 24) : (uint8_t)in_listings[below(sizeof in_listings - 1)];
+}
+
+static size_t insert_bytes(uint8_t *text, size_t length, size_t place, const uint8_t *bytes, size_t count)
+{
+    memmove(text + place + count, text + place, length - place);
+    memcpy(text + place, bytes, count);
+    return length + count;
+}
+
+static size_t remove_bytes(uint8_t *text, size_t length, size_t place, size_t count)
+{
+    memmove(text + place, text + place + count, length - place - count);
+    return length - count;
+}
+
+/* Where the line ends in which this place is. */
+static size_t end_of_line(const uint8_t *text, size_t length, size_t place)
+{
+    while (place < length && text[place++] != '\n')
+        ;
+    return place;
+}
+
+size_t damage_text(uint8_t *text, size_t length)
+{
+    size_t place = below((uint32_t)length), from = end_of_line(text, length, place), to = end_of_line(text, length, from);
+    uint8_t byte = some_byte(), line[64];
+    switch (below(9)) {
+    case 0:
+        return place;
+    case 1:
+        return remove_bytes(text, length, place, 1);
+    case 2:
+        return insert_bytes(text, length, place, &byte, 1);
+    case 3: /* a line is gone, */
+        return remove_bytes(text, length, from, to - from);
+    case 4: /* or there twice, or elsewhere as well */
+        if (to - from > sizeof line)
+            return length;
+        memcpy(line, text + from, to - from);
+        return insert_bytes(text, length, end_of_line(text, length, below((uint32_t)length)), line, to - from);
+    case 5: /* another count */
+        text[6 + below(3)] = byte;
+        return length;
+    case 6:
+        text[length] = byte;
+        return length + 1;
+    default:
+        text[place] = byte;
+        return length;
+    }
+}

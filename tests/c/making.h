@@ -1,4 +1,4 @@
-/* Grants, batches and states by chance: right ones, and right ones damaged in one place. */
+/* Grants, batches, states and listings by chance: right ones, and right ones damaged in one place. */
 #ifndef MAKING_H
 #define MAKING_H
 
@@ -33,5 +33,8 @@ void damage_batch(struct batch *batch);
 /* One cell in `every` is marked. */
 void make_state(uint32_t *state, const struct grants *grants, uint32_t every);
 void damage_state(uint32_t *state);
+
+/* The text has room for as many bytes again. Answers its length then. */
+size_t damage_text(uint8_t *text, size_t length);
 
 #endif

@@ -746,30 +746,40 @@ static inline size_t cell_3d(uint32_t type, uint32_t sub_type, uint32_t sub_addr
     return CELLS;
 }
 
-/* The lines: the cell whose line stands there, and its value; CELLS if none does. */
+/* What stands in a line behind the name. */
+static inline int read_value(const uint8_t *at, uint32_t *value)
+{
+    return is_text(at, " val=") && is_hex(at + 5, VALUE_DIGITS, value) && at[13] == '\n';
+}
+
+/* Each of the following gives the cell whose line stands there, and its value, or CELLS if there is none. */
 
 static inline size_t read_3d_line(const uint8_t *line, uint32_t *value)
 {
     uint32_t type, sub_type, sub_address;
-    if (!is_text(line, "reg=") || !is_hex(line + 4, 2, &type) || line[6] != '.' || !is_hex(line + 7, 2, &sub_type) || line[9] != '.'
-        || !is_hex(line + 10, 2, &sub_address) || !is_text(line + 12, " val=") || !is_hex(line + 17, VALUE_DIGITS, value)
-        || line[25] != '\n' || !is_24_bits(*value))
+    if (!is_hex(line + 4, 2, &type) || line[6] != '.' || !is_hex(line + 7, 2, &sub_type) || line[9] != '.'
+        || !is_hex(line + 10, 2, &sub_address))
         return CELLS;
-    return cell_3d(type, sub_type, sub_address);
+    size_t cell = cell_3d(type, sub_type, sub_address);
+    if (cell == CELLS || !read_value(line + 12, value) || !is_24_bits(*value))
+        return CELLS;
+    return cell;
 }
 
 static inline size_t read_video_line(const uint8_t *line, uint32_t *value)
 {
     uint32_t offset;
-    if (!is_text(line, "reg=") || !is_hex(line + 4, 4, &offset) || !is_text(line + 8, " val=")
-        || !is_hex(line + 13, VALUE_DIGITS, value) || line[21] != '\n')
+    if (!is_hex(line + 4, 4, &offset))
         return CELLS;
-    return video_cell(offset);
+    size_t cell = video_cell(offset);
+    if (cell == CELLS || !read_value(line + 8, value))
+        return CELLS;
+    return cell;
 }
 
 static inline size_t read_line(const uint8_t *line, size_t length, uint32_t *value)
 {
-    if (length < LINE_VIDEO)
+    if (length < LINE_VIDEO || !is_text(line, "reg="))
         return CELLS;
     if (line[6] != '.')
         return read_video_line(line, value);
@@ -796,7 +806,7 @@ static void put_line(uint8_t *out, size_t cell)
         put_video_line(out, video_offset(cell), 0);
 }
 
-/* How many of the bytes some line of this cell begins with. Its digits may be any, from where its width ends. */
+/* How many of the bytes a line of this cell begins with. The digits that its width leaves open may be any. */
 static size_t agreeing(const uint8_t *bytes, size_t length, size_t cell)
 {
     uint8_t line[LINE_3D];
@@ -810,16 +820,25 @@ static size_t agreeing(const uint8_t *bytes, size_t length, size_t cell)
     return i;
 }
 
-/* The most of them that the line of a cell from `first` to `last` begins with. */
+/* The same for the cells from `first` to `last`: the most of them. */
 static size_t most_agreeing(const uint8_t *bytes, size_t length, size_t first, size_t last)
 {
     size_t most = 0;
     for (size_t cell = first; cell <= last; cell++) {
-        size_t bytes_agreeing = agreeing(bytes, length, cell);
-        if (bytes_agreeing > most)
-            most = bytes_agreeing;
+        size_t so_many = agreeing(bytes, length, cell);
+        if (so_many > most)
+            most = so_many;
     }
     return most;
+}
+
+/* How many of the bytes the text begins with. */
+static size_t agreeing_text(const uint8_t *bytes, size_t length, const char *text)
+{
+    size_t i = 0;
+    while (i < length && text[i] != 0 && bytes[i] == (uint8_t)text[i])
+        i++;
+    return i;
 }
 
 /* ---- a whole listing */
@@ -828,13 +847,9 @@ static size_t most_agreeing(const uint8_t *bytes, size_t length, size_t first, s
 static inline uint64_t read_count(const uint8_t *listing, size_t length, size_t *count, size_t *next)
 {
     static const char key[] = "cells=";
-    size_t at = 0, number = 0;
-    while (key[at] != 0) {
-        if (at == length || listing[at] != key[at])
-            return answer(at, NOT_A_LISTING);
-        at++;
-    }
-    size_t first_digit = at;
+    size_t first_digit = strlen(key), number = 0, at = first_digit;
+    if (length < first_digit || !is_text(listing, key))
+        return answer(agreeing_text(listing, length, key), NOT_A_LISTING);
     for (; at < length && listing[at] >= '0' && listing[at] <= '9'; at++) {
         int leading_zero = number == 0 && at > first_digit;
         number = 10 * number + (listing[at] - (size_t)'0');
@@ -868,7 +883,7 @@ static inline uint64_t read_lines(const uint8_t *listing, size_t length, size_t 
 uint64_t careful_read_listing(const uint8_t *listing, size_t listing_len,
                               uint8_t *state, size_t state_len)
 {
-    uint8_t read[STATE_BYTES] = { 0 };
+    uint8_t listed[STATE_BYTES] = { 0 };
     size_t count, at;
     if (listing_len > MOST_BYTES || !is_word_buffer(state_len))
         return answer(0, BAD_BUFFER);
@@ -877,8 +892,8 @@ uint64_t careful_read_listing(const uint8_t *listing, size_t listing_len,
     uint64_t refusal = read_count(listing, listing_len, &count, &at);
     if (refusal != OK)
         return refusal;
-    uint64_t given = read_lines(listing, listing_len, at, count, read);
+    uint64_t given = read_lines(listing, listing_len, at, count, listed);
     if (given % 256 == OK)
-        memcpy(state, read, STATE_BYTES);
+        memcpy(state, listed, STATE_BYTES);
     return given;
 }

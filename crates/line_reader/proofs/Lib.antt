@@ -1,0 +1,5 @@
+pub mod Fours
+pub mod Digits
+pub mod Names
+pub mod Values
+pub mod Whole

@@ -1,30 +1,19 @@
-// The line of a register, read back: the cell that it names, and the value that it has.
+// The line of a register, read back: the cell that it names, and its value. Four bytes are compared at a time, and a digit is looked up in a
+// table, which the caller lends.
 ghost use mathlib.Core.Path.{_≡_};
+ghost use mathlib.Core.Bool.{false};
 ghost use Prim.Native.Nat.{_+_, _<_, _≤_};
 ghost use lib.ListN.{length, drop};
-ghost use Rattle.meaning.specs.Registers.{cells, firstVideo, endVideo};
-ghost use Rattle.line_reader.specs.Fours.{fourAt, Four};
-ghost use Rattle.line_reader.specs.Names.{digitOr16, cell3DOf, cellVideoOf};
-ghost use Rattle.line_reader.specs.Lines.{DigitRun, LineAt};
+ghost use Rattle.meaning.specs.Registers.{cells};
+ghost use Rattle.line_reader.specs.Named.{digitOr16, digitTable, cell3DBy, cell3DOf, cellVideoOf};
+ghost use Rattle.line_reader.specs.Read.{Four, DigitsAt, NameAt, ValueAt, LineAt};
 use meaning::CELLS;
 use meaning::FIRST_VIDEO;
 
-// Bytes of a line that are the same for every register, four at a time, the first lowest.
+// `reg=` and ` val`, the first byte lowest.
 const REG_KEY: u32 = 0x3d676572;
 
 const VAL_KEY: u32 = 0x6c617620;
-
-// `val=`, behind an offset of four digits,
-const VAL_END: u32 = 0x3d6c6176;
-
-// and `l=00`: a 3D value has 24 bits, so its first two digits are 0.
-const VAL_00: u32 = 0x30303d6c;
-
-// The cell whose line it is, and its value; cell CELLS is none.
-pub struct Line {
-    pub cell: usize,
-    pub value: u32,
-}
 
 // A parameter is known to be a byte, which an element of a slice is not.
 fn wide(byte: u8) -> u32
@@ -46,55 +35,21 @@ fn four(text: &[u8], at: usize) -> u32
 }
 
 // What a hex digit counts; 16 for any other byte.
-fn digit_of(x: u8) -> u32
-    ensures digit { λ r. ⌜ (r ≡ digitOr16 x) × (r ≤ 16) ⌝ }
+fn digit_of(digits: &[u8; 256], x: u8) -> u32
+    requires table { ⌜ now digits ≡ digitTable ⌝ }
+    ensures digit { λ r. ⌜ r ≡ digitOr16 x ⌝ }
 {
-    match x {
-        48..=57 => x as u32 - 48,
-        97..=102 => x as u32 - 87,
-        _ => 16,
-    }
+    digits[x as usize] as u32
 }
 
-// So many digits, and the number that they make.
-struct Run {
-    taken: usize,
-    value: u32,
-}
-
-// The hex digits from `at` on, at most n of them.
-fn digit_run(text: &[u8], at: usize, n: usize) -> Run
-    requires inside { ⌜ at ≤ length (now text) ⌝ }
-    requires few { ⌜ n ≤ 8 ⌝ }
-    ensures run { λ r. ⌜ DigitRun (drop at (now (text .entry))) n (r .taken) (r .value) ⌝ }
+// The 3D cell whose name is these eight bytes, as `01.0` and `0.3f`, with the digit n; CELLS if there is none.
+fn cell_by(n: usize, kind: u32, name: u32) -> usize
+    requires digit { ⌜ n < 16 ⌝ }
+    ensures cell { λ r. ⌜ r ≡ cell3DBy n kind name ⌝ }
 {
-    let mut i = 0;
-    let mut value: u32 = 0;
-    while i < n {
-        if text.len() - at <= i {
-            return Run { taken: i, value };
-        }
-        let d = digit_of(text[at + i]);
-        if 15 < d {
-            return Run { taken: i, value };
-        }
-        value = value * 16 + d;
-        i += 1;
-    }
-    Run { taken: i, value }
-}
-
-// The 3D cell whose name stands in these eight bytes, as `01.0` and `0.3f`; CELLS if none has it.
-fn cell_3d(kind: u32, name: u32) -> usize
-    ensures cell { λ r. ⌜ r ≡ cell3DOf kind name ⌝ }
-{
-    let n = digit_of((name % 256) as u8) as usize;
     let address = name / 256;
-    if 15 < n {
-        return CELLS;
-    }
     match kind {
-        // 01.0: the target
+        // 01.0: the target, 0.3f and 0.50 to 0.52
         0x302e3130 => match name {
             0x66332e30 => 0,
             0x30352e30 => 1,
@@ -102,13 +57,13 @@ fn cell_3d(kind: u32, name: u32) -> usize
             0x32352e30 => 3,
             _ => CELLS,
         },
-        // 02.0: stage n
+        // 02.0: stage n, .50 and .51
         0x302e3230 => match address {
             0x30352e => 4 + 2 * n,
             0x31352e => 5 + 2 * n,
             _ => CELLS,
         },
-        // 02.2: sample n
+        // 02.2: sample n, .30 to .32
         0x322e3230 => match address {
             0x30332e => 36 + 3 * n,
             0x31332e => 37 + 3 * n,
@@ -119,11 +74,22 @@ fn cell_3d(kind: u32, name: u32) -> usize
     }
 }
 
-// The video cell whose offset stands in these four bytes; CELLS if none has it.
-fn cell_video(name: u32) -> usize
-    ensures cell { λ r. ⌜ r ≡ cellVideoOf name ⌝ }
+fn cell_3d(digits: &[u8; 256], kind: u32, name: u32) -> usize
+    requires table { ⌜ now digits ≡ digitTable ⌝ }
+    ensures cell { λ r. ⌜ r ≡ cell3DOf kind name ⌝ }
 {
-    match name {
+    let n = digit_of(digits, (name % 256) as u8);
+    if 15 < n {
+        return CELLS;
+    }
+    cell_by(n as usize, kind, name)
+}
+
+// The video cell whose offset is these four digits; CELLS if there is none.
+fn cell_video(offset: u32) -> usize
+    ensures cell { λ r. ⌜ r ≡ cellVideoOf offset ⌝ }
+{
+    match offset {
         // 2208, 220c, 2210
         0x38303232 => 84,
         0x63303232 => 85,
@@ -148,96 +114,134 @@ fn cell_video(name: u32) -> usize
     }
 }
 
-fn no_line() -> Line {
+// The cell whose name stands in a line, CELLS if none does, and where the name ends.
+struct Name {
+    cell: usize,
+    end: usize,
+}
+
+// The name in the line from `at` on.
+fn name_at(digits: &[u8; 256], text: &[u8], at: usize) -> Name
+    requires table { ⌜ now digits ≡ digitTable ⌝ }
+    requires inside { ⌜ at + 12 ≤ length (now text) ⌝ }
+    ensures name { λ r. ⌜ NameAt (drop at (now (text .entry))) (r .cell) (r .end) ⌝ }
+{
+    if four(text, at) != REG_KEY {
+        return Name {
+            cell: CELLS,
+            end: 0,
+        };
+    }
+    let kind = four(text, at + 4);
+    let cell = cell_3d(digits, kind, four(text, at + 8));
+    if cell < CELLS {
+        return Name { cell, end: 12 };
+    }
+    Name {
+        cell: cell_video(kind),
+        end: 8,
+    }
+}
+
+// A value, if there is one.
+struct Value {
+    fine: bool,
+    value: u32,
+}
+
+fn no_value() -> Value
+    ensures none { λ r. ⌜ (r .fine ≡ false) × (r .value ≡ 0) ⌝ }
+{
+    Value {
+        fine: false,
+        value: 0,
+    }
+}
+
+// The eight digits from `at` on.
+fn digits_at(digits: &[u8; 256], text: &[u8], at: usize) -> Value
+    requires table { ⌜ now digits ≡ digitTable ⌝ }
+    requires inside { ⌜ at + 8 ≤ length (now text) ⌝ }
+    ensures value { λ r. ⌜ DigitsAt (drop at (now (text .entry))) (r .fine) (r .value) ⌝ }
+{
+    let mut value: u32 = 0;
+    let mut i = 0;
+    while i < 8 {
+        let d = digit_of(digits, text[at + i]);
+        if 15 < d {
+            return no_value();
+        }
+        value = value * 16 + d;
+        i += 1;
+    }
+    Value { fine: true, value }
+}
+
+// The end of a line from `at` on, as ` val=00001000`.
+fn value_at(digits: &[u8; 256], text: &[u8], at: usize) -> Value
+    requires table { ⌜ now digits ≡ digitTable ⌝ }
+    requires inside { ⌜ at + 14 ≤ length (now text) ⌝ }
+    ensures value { λ r. ⌜ ValueAt (drop at (now (text .entry))) (r .fine) (r .value) ⌝ }
+{
+    if four(text, at) != VAL_KEY {
+        return no_value();
+    }
+    if text[at + 4] != b'=' {
+        return no_value();
+    }
+    if text[at + 13] != b'\n' {
+        return no_value();
+    }
+    digits_at(digits, text, at + 5)
+}
+
+// A line: its cell, CELLS if there is none, and its value.
+pub struct Line {
+    pub cell: usize,
+    pub value: u32,
+}
+
+fn no_line() -> Line
+    ensures none { λ r. ⌜ (r .cell ≡ cells) × (r .value ≡ 0) ⌝ }
+{
     Line {
         cell: CELLS,
         value: 0,
     }
 }
 
-// The line of a 3D register from `at` on, as `reg=01.00.50 val=00001000`.
-fn line_3d(text: &[u8], at: usize) -> Line
-    requires inside { ⌜ at ≤ length (now text) ⌝ }
-    ensures line { λ r. ⌜ LineAt (drop at (now (text .entry))) 0 firstVideo (r .cell) (r .value) ⌝ }
-{
-    if text.len() - at < 26 {
-        return no_line();
-    }
-    if four(text, at) != REG_KEY {
-        return no_line();
-    }
-    let cell = cell_3d(four(text, at + 4), four(text, at + 8));
-    if CELLS <= cell {
-        return no_line();
-    }
-    if four(text, at + 12) != VAL_KEY {
-        return no_line();
-    }
-    if four(text, at + 15) != VAL_00 {
-        return no_line();
-    }
-    let digits = digit_run(text, at + 19, 6);
-    if digits.taken < 6 {
-        return no_line();
-    }
-    if text[at + 25] != b'\n' {
-        return no_line();
-    }
-    Line {
-        cell,
-        value: digits.value,
-    }
-}
-
-// The line of a video register from `at` on, as `reg=23f0 val=00001000`.
-fn line_video(text: &[u8], at: usize) -> Line
-    requires inside { ⌜ at ≤ length (now text) ⌝ }
-    ensures line { λ r. ⌜ LineAt (drop at (now (text .entry))) firstVideo endVideo (r .cell) (r .value) ⌝ }
-{
-    if text.len() - at < 22 {
-        return no_line();
-    }
-    if four(text, at) != REG_KEY {
-        return no_line();
-    }
-    let cell = cell_video(four(text, at + 4));
-    if CELLS <= cell {
-        return no_line();
-    }
-    if four(text, at + 8) != VAL_KEY {
-        return no_line();
-    }
-    if four(text, at + 9) != VAL_END {
-        return no_line();
-    }
-    let digits = digit_run(text, at + 13, 8);
-    if digits.taken < 8 {
-        return no_line();
-    }
-    if text[at + 21] != b'\n' {
-        return no_line();
-    }
-    Line {
-        cell,
-        value: digits.value,
-    }
-}
-
 // The line from `at` on, if it is that of a cell from `first` to before `end`.
-pub fn read_line(text: &[u8], at: usize, first: usize, end: usize) -> Line
+pub fn read_line(digits: &[u8; 256], text: &[u8], at: usize, first: usize, end: usize) -> Line
+    requires table { ⌜ now digits ≡ digitTable ⌝ }
     requires inside { ⌜ at ≤ length (now text) ⌝ }
     requires cells { ⌜ end ≤ cells ⌝ }
     ensures line { λ r. ⌜ LineAt (drop at (now (text .entry))) first end (r .cell) (r .value) ⌝ }
 {
-    let mut line = line_3d(text, at);
-    if CELLS <= line.cell {
-        line = line_video(text, at);
-    }
-    if line.cell < first {
+    let rest = text.len() - at;
+    if rest < 22 {
         return no_line();
     }
-    if end <= line.cell {
+    let name = name_at(digits, text, at);
+    if name.cell < first {
         return no_line();
     }
-    line
+    if end <= name.cell {
+        return no_line();
+    }
+    if rest < name.end + 14 {
+        return no_line();
+    }
+    let value = value_at(digits, text, at + name.end);
+    if !value.fine {
+        return no_line();
+    }
+    if name.cell < FIRST_VIDEO {
+        if 0xffffff < value.value {
+            return no_line();
+        }
+    }
+    Line {
+        cell: name.cell,
+        value: value.value,
+    }
 }

@@ -7,6 +7,7 @@ pub mod Count
 pub mod Digits
 pub mod Decimals
 pub mod Texts
+pub mod Here
 pub mod Cells
 pub mod Listings
 pub mod Answers

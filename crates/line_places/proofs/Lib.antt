@@ -1,0 +1,4 @@
+pub mod Along
+pub mod Runs
+pub mod Names
+pub mod Most

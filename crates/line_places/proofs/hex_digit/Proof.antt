@@ -1,0 +1,31 @@
+-- Each arm is one of the definition's tests.
+-- Assumes nothing.
+use Rattle.laws.proofs.Arms.{tests}
+use Rattle.meaning.specs.Lister.{digit}
+use borrow.Author.Needs.{needs}
+use Rattle.line_places.proofs.hex_digit.Statement.{statement}
+use Rattle.line_places.proofs.hex_digit.Tie as tie
+
+add-result : tie.Need-add-result
+add-result c = search needs
+
+cast-result : tie.Need-cast-result
+cast-result c = search needs
+
+returns : tie.Need-returns
+unfolding digit
+returns c = search tests
+
+add-result-2 : tie.Need-add-result-2
+add-result-2 c = search needs
+
+cast-result-2 : tie.Need-cast-result-2
+cast-result-2 c = search needs
+
+returns-2 : tie.Need-returns-2
+unfolding digit
+returns-2 c = search tests
+
+pub hex-digit-spec : {M : Type 1} → statement M
+hex-digit-spec =
+    tie.close (tie.spec add-result cast-result returns add-result-2 cast-result-2 returns-2)
