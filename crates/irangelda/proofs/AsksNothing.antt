@@ -4,6 +4,7 @@
 use Rattle.irangelda.proofs.irangelda_read.Reads as irangelda-read
 use Rattle.irangelda.proofs.irangelda_write.Reads as irangelda-write
 use Rattle.irangelda.proofs.irangelda_list.Reads as irangelda-list
+use Rattle.irangelda.proofs.irangelda_read_listing.Reads as irangelda-read-listing
 
 -- a contract that every caller keeps to,
 abbrev pub AsksNothing {ℓ} : {K : Type ℓ} {A : K → Type ℓ} (P : (κ : K) → A κ → Type ℓ) → Type ℓ
@@ -21,3 +22,6 @@ irangelda-write-asks κs a = nothing-asked
 
 pub irangelda-list-asks : AsksNothing irangelda-list.Asked
 irangelda-list-asks κs a = nothing-asked
+
+pub irangelda-read-listing-asks : AsksNothing irangelda-read-listing.Asked
+irangelda-read-listing-asks κs a = nothing-asked

@@ -23,9 +23,11 @@ use Rattle.meaning.specs.Answers.{badState, badGrants, badBuffer, success, numb
 use Rattle.meaning.specs.Reader.{judge, follow, run, batchAnswer, readAnswer, readLeaves}
 use Rattle.meaning.specs.Writer.{written, writeAnswer}
 use Rattle.meaning.specs.Lister.{listAnswer, listLeaves}
-use Rattle.meaning.specs.Exported.{mostBytes, bufferFine, wordBufferFine, exportedRead, exportedReadLeaves, exportedWrite, exportedWriteLeaves, exportedList, exportedListLeaves}
+use Rattle.meaning.specs.ListingReader.{listingAnswer, listingLeaves}
+use Rattle.meaning.specs.Exported.{mostBytes, bufferFine, wordBufferFine, exportedRead, exportedReadLeaves, exportedWrite, exportedWriteLeaves, exportedList, exportedListLeaves, exportedReadListing, exportedReadListingLeaves}
 use Rattle.meaning.proofs.Bytes.{length-words, length-bytes}
 use Rattle.meaning.proofs.States.{length-applied}
+use Rattle.listings.proofs.Answers.{leaves-length, place-within}
 
 -- ---- three buffers of words
 
@@ -141,3 +143,31 @@ module _ (st out : List ℕ) where
       → {n : ℕ} → n ≡ numberOf r → (n ≡ numberOf (exportedList st out)) × (left ≡ exportedListLeaves st out)
   unfolding exportedList exportedListLeaves listLeaves
   list-answered e a l n = rw (e, ← a) (n, l ∙ rw (← a))
+
+-- ---- read a listing
+
+module _ (text st : List ℕ) where
+  pub listing-13 : wordBufferFine st && bufferFine text ≡ false → (badBuffer ≡ numberOf (exportedReadListing text st)) × (st ≡ exportedReadListingLeaves text st)
+  unfolding exportedReadListing exportedReadListingLeaves
+  listing-13 e = rw e (refl, refl)
+
+  module _ (e : wordBufferFine st && bufferFine text ≡ true) where
+    -- what the two tests told
+    listing-told : (length st % 4 ≡ 0) × (length text ≤ mostBytes)
+    unfolding wordBufferFine bufferFine
+    listing-told =
+        let both = and-yes (wordBufferFine st) _ (holds-of e) in
+        (eqb-yes (and-yes (bufferFine st) _ (both .0) .1), leb→le (length text) mostBytes (both .1))
+
+    pub whole-listed : over (bytesOf (listingLeaves text (wordsOf st))) st ≡ bytesOf (listingLeaves text (wordsOf st))
+    whole-listed =
+        over-all _ st (length-bytes (listingLeaves text (wordsOf st)) ∙ omega (arith, leaves-length text (wordsOf st), length-words st, listing-told .0))
+
+    pub listing-answered : {r : Answer} → r ≡ listingAnswer text (wordsOf st) → {left : List ℕ} → left ≡ settle r (over (bytesOf (listingLeaves text (wordsOf st))) st) st
+        → {n : ℕ} → n ≡ numberOf r → (n ≡ numberOf (exportedReadListing text st)) × (left ≡ exportedReadListingLeaves text st)
+    unfolding exportedReadListing exportedReadListingLeaves
+    listing-answered {r} a l n = rw (e, ← a) (n, l ∙ ap (λ (x : List ℕ). settle r x st) whole-listed)
+
+    -- a place is small
+    pub listing-small : listingAnswer text (wordsOf st) .place ≤ mostBytes
+    listing-small = omega (arith, place-within text (wordsOf st), listing-told .1)

@@ -132,3 +132,13 @@ module _ (xs : List ℕ) (first end : ℕ) (in-table : end ≤ cells) {n e : ℕ
 
   pub line-video : firstVideo ≤ n → LineAt xs first end n value
   line-video k = line-of (rw (width-video n k (omega arith)) (stands .found f .0))
+
+-- ---- one line at most
+
+pub line-once : (xs : List ℕ) (first end : ℕ) {c v d u : ℕ} → LineAt xs first end c v → LineAt xs first end d u → (c ≡ d) × (v ≡ u)
+line-once xs first end {c} {v} {d} {u} p q = by (decLt c cells) (decLt d cells)
+  where
+    by : Dec (c < cells) → Dec (d < cells) → (c ≡ d) × (v ≡ u)
+    by (yes l) z = let h = p .found l in let e = q .only c v (h .0) (h .1) (h .2) in (sym (e .0), sym (e .1))
+    by (no l) (yes m) = let h = q .found m in p .only d u (h .0) (h .1) (h .2)
+    by (no l) (no m) = let a = p .none (omega arith) in let b = q .none (omega arith) in (a .0 ∙ sym (b .0), a .1 ∙ sym (b .1))

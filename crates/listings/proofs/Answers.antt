@@ -6,6 +6,7 @@ use mathlib.Core.List.{List, _++_}
 use mathlib.Core.Logic.{_≢_, _↔_}
 use Prim.Native.Nat.{ℕ, zero, suc, _≤_, _<_}
 use native.Mathlib.Omega.{arith}
+use native.Mathlib.Decide.{ℕ-discrete}
 use borrow.Author.Tests.{eq-eqb, ne-eqb, eqb-true}
 use lib.Dec.{eqb}
 use mir.Facts.{yes-eqb}
@@ -16,6 +17,7 @@ use Rattle.meaning.specs.State.{stateWords, marked, empty, applyAll}
 use Rattle.meaning.specs.Answers.{badState, success, answer, notListing}
 use Rattle.meaning.specs.Lister.{listing}
 use Rattle.meaning.proofs.Writing.{chosenFrom}
+use Rattle.meaning.proofs.Bytes.{exactly}
 use Rattle.meaning.proofs.States.{formed-iff, rebuilt}
 use Rattle.meaning.specs.Listings.{Listable, Listed, BeginsListing, LongestListing}
 use Rattle.meaning.specs.ListingReader.{readText, listingAnswer, listingLeaves}
@@ -122,3 +124,37 @@ each-listing-reason-exactly text old (ListingReaderGives.not-listing {p} n none 
     let q = listing-place-is-longest-beginning text old n z in
     ap₂ answer (q .0) (longest-once text (listingAnswer text old .place) p (q .1) l)
 each-listing-reason-exactly text old (ListingReaderGives.done {st} n h) = listing-comes-back text old n st h .0
+
+-- ---- what it leaves, and where it refuses
+
+-- a state stays as long as it was
+pub leaves-length : (text old : List ℕ) → length (listingLeaves text old) ≡ length old
+leaves-length text old = by (ℕ-discrete (length old) stateWords) (ℕ-discrete (listingAnswer text old .reason) 0)
+  where
+    by : Dec (length old ≡ stateWords) → Dec (listingAnswer text old .reason ≡ 0) → length (listingLeaves text old) ≡ length old
+    by (no n) z = ap length (wrong-length text old n .1)
+    by (yes n) (no z) = ap length (listing-place-is-longest-beginning text old n z .2)
+    by (yes n) (yes z) = formed-iff (listingLeaves text old) .0 (listing-read-exactly text old n .0 z .state .formed) .size ∙ sym n
+
+-- no place lies behind the text
+pub place-within : (text old : List ℕ) → listingAnswer text old .place ≤ length text
+place-within text old = by (each-listing-reason text old)
+  where
+    by : {r p : ℕ} → ListingReaderGives text old r p → p ≤ length text
+    by (ListingReaderGives.bad-state n) = omega arith
+    by (ListingReaderGives.not-listing n none l) = l .within
+    by (ListingReaderGives.done n h) = omega arith
+
+-- its reasons
+pub reason-is : (text old : List ℕ) → (listingAnswer text old .reason < 256) × (listingAnswer text old .reason ≢ 13)
+reason-is text old = by (each-listing-reason text old)
+  where
+    by : {r p : ℕ} → ListingReaderGives text old r p → (r < 256) × (r ≢ 13)
+    by (ListingReaderGives.bad-state n) = (omega arith, λ e. omega arith)
+    by (ListingReaderGives.not-listing n none l) = (omega arith, λ e. omega arith)
+    by (ListingReaderGives.done n h) = (omega arith, λ e. omega arith)
+
+-- ---- the reasons, each exactly
+
+pub listing-exactly : (text old : List ℕ) (r p : ℕ) → (listingAnswer text old ≡ answer r p) ↔ ListingReaderGives text old r p
+listing-exactly text old = exactly (listingAnswer text old) (ListingReaderGives text old) (each-listing-reason text old) (λ r p. each-listing-reason-exactly text old)

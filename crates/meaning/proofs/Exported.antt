@@ -95,34 +95,34 @@ write-below-13 a b room = omega (arith, write-range a b room (write-told a b roo
 pub list-below-13 : (a : List ℕ) (room : ℕ) → listAnswer a room .reason < 13
 list-below-13 a room = omega (arith, list-range a room (list-told a room))
 
-provided-range : (b : Bool) (a : Answer) → a .reason < 13 → provided b 13 a .reason < 256
+pub provided-range : (b : Bool) (a : Answer) → a .reason < 256 → provided b 13 a .reason < 256
 provided-range true a l = omega arith
 provided-range false a l = omega arith
 
 pub read-call-range : (a b c : List ℕ) → exportedRead a b c .reason < 256
 unfolding exportedRead
-read-call-range a b c = provided-range (every wordBufferFine (a ∷ b ∷ c ∷ [])) _ (read-below-13 (wordsOf a) (wordsOf b) (wordsOf c))
+read-call-range a b c = provided-range (every wordBufferFine (a ∷ b ∷ c ∷ [])) _ (omega (arith, read-below-13 (wordsOf a) (wordsOf b) (wordsOf c)))
 
 pub write-call-range : (a b c : List ℕ) → exportedWrite a b c .reason < 256
 unfolding exportedWrite
-write-call-range a b c = provided-range (every wordBufferFine (a ∷ b ∷ c ∷ [])) _ (write-below-13 (wordsOf a) (wordsOf b) (length c / 4))
+write-call-range a b c = provided-range (every wordBufferFine (a ∷ b ∷ c ∷ [])) _ (omega (arith, write-below-13 (wordsOf a) (wordsOf b) (length c / 4)))
 
 pub list-call-range : (a c : List ℕ) → exportedList a c .reason < 256
 unfolding exportedList
-list-call-range a c = provided-range (wordBufferFine a && bufferFine c) _ (list-below-13 (wordsOf a) (length c))
+list-call-range a c = provided-range (wordBufferFine a && bufferFine c) _ (omega (arith, list-below-13 (wordsOf a) (length c)))
 
 -- 13 is given exactly of buffers that are not fine
 pub read-13-exactly : (a b c : List ℕ) → (exportedRead a b c .reason ≡ 13) ↔ (¬ T (every wordBufferFine (a ∷ b ∷ c ∷ [])))
 unfolding exportedRead
-read-13-exactly a b c = provided-first (every wordBufferFine (a ∷ b ∷ c ∷ [])) 13 _ (read-below-13 (wordsOf a) (wordsOf b) (wordsOf c))
+read-13-exactly a b c = provided-first (every wordBufferFine (a ∷ b ∷ c ∷ [])) 13 _ (λ e. omega (arith, read-below-13 (wordsOf a) (wordsOf b) (wordsOf c)))
 
 pub write-13-exactly : (a b c : List ℕ) → (exportedWrite a b c .reason ≡ 13) ↔ (¬ T (every wordBufferFine (a ∷ b ∷ c ∷ [])))
 unfolding exportedWrite
-write-13-exactly a b c = provided-first (every wordBufferFine (a ∷ b ∷ c ∷ [])) 13 _ (write-below-13 (wordsOf a) (wordsOf b) (length c / 4))
+write-13-exactly a b c = provided-first (every wordBufferFine (a ∷ b ∷ c ∷ [])) 13 _ (λ e. omega (arith, write-below-13 (wordsOf a) (wordsOf b) (length c / 4)))
 
 pub list-13-exactly : (a c : List ℕ) → (exportedList a c .reason ≡ 13) ↔ (¬ T (wordBufferFine a && bufferFine c))
 unfolding exportedList
-list-13-exactly a c = provided-first (wordBufferFine a && bufferFine c) 13 _ (list-below-13 (wordsOf a) (length c))
+list-13-exactly a c = provided-first (wordBufferFine a && bufferFine c) 13 _ (λ e. omega (arith, list-below-13 (wordsOf a) (length c)))
 
 module _ (a b c : List ℕ) (fine : T (every wordBufferFine (a ∷ b ∷ c ∷ []))) where
   pub read-call : exportedRead a b c ≡ readAnswer (wordsOf a) (wordsOf b) (wordsOf c)

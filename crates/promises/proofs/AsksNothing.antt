@@ -87,9 +87,14 @@ use Rattle.lines.proofs.put_line_video.Reads as put-line-video
 use Rattle.reader.proofs.read.Reads as read
 use Rattle.writer.proofs.write.Reads as write
 use Rattle.lister.proofs.list.Reads as list
+use Rattle.line_reader.specs.Named.{digitTable}
+use Rattle.line_reader.proofs.read_line.Reads as read-line
+use Rattle.line_places.proofs.furthest.Reads as furthest
+use Rattle.listing_reader.proofs.read_listing.Reads as read-listing
 use Rattle.irangelda.proofs.irangelda_read.Reads as irangelda-read
 use Rattle.irangelda.proofs.irangelda_write.Reads as irangelda-write
 use Rattle.irangelda.proofs.irangelda_list.Reads as irangelda-list
+use Rattle.irangelda.proofs.irangelda_read_listing.Reads as irangelda-read-listing
 
 -- a contract that asks this of its caller, and no more
 abbrev AsksExactly {ℓ} : {K : Type ℓ} {A : K → Type ℓ} (P Q : (κ : K) → A κ → Type ℓ) → Type ℓ
@@ -111,6 +116,9 @@ write-asks κs a = nothing-asked
 pub list-asks : AsksNothing list.Asked
 list-asks κs a = nothing-asked
 
+pub read-listing-asks : AsksNothing read-listing.Asked
+read-listing-asks κs a = nothing-asked
+
 -- and of the driver, as their own crate has it
 pub irangelda-read-asks : AsksNothing irangelda-read.Asked
 irangelda-read-asks = calls.irangelda-read-asks
@@ -121,10 +129,14 @@ irangelda-write-asks = calls.irangelda-write-asks
 pub irangelda-list-asks : AsksNothing irangelda-list.Asked
 irangelda-list-asks = calls.irangelda-list-asks
 
--- D1 "asks nothing of its caller": all six
-pub asks-nothing : AsksNothing read.Asked × AsksNothing write.Asked × AsksNothing list.Asked
-    × AsksNothing irangelda-read.Asked × AsksNothing irangelda-write.Asked × AsksNothing irangelda-list.Asked
-asks-nothing = (read-asks, write-asks, list-asks, irangelda-read-asks, irangelda-write-asks, irangelda-list-asks)
+pub irangelda-read-listing-asks : AsksNothing irangelda-read-listing.Asked
+irangelda-read-listing-asks = calls.irangelda-read-listing-asks
+
+-- D1 "asks nothing of its caller": all eight
+pub asks-nothing : AsksNothing read.Asked × AsksNothing write.Asked × AsksNothing list.Asked × AsksNothing read-listing.Asked
+    × AsksNothing irangelda-read.Asked × AsksNothing irangelda-write.Asked × AsksNothing irangelda-list.Asked × AsksNothing irangelda-read-listing.Asked
+asks-nothing =
+    (read-asks, write-asks, list-asks, read-listing-asks, irangelda-read-asks, irangelda-write-asks, irangelda-list-asks, irangelda-read-listing-asks)
 
 -- ==== What they are made of
 
@@ -350,3 +362,11 @@ put-line-3d-asks κs a = asks-this
 
 pub put-line-video-asks : AsksExactly put-line-video.Asked (λ _ (pairs, (out, (at, (cell, _)))). (now pairs ≡ digitPairs) × ((firstVideo ≤ cell .0) × ((cell .0 < endVideo) × (at + 22 ≤ length (now out)))))
 put-line-video-asks κs a = asks-this
+
+-- ---- lines, read back
+
+pub read-line-asks : AsksExactly read-line.Asked (λ _ (digits, (text, (at, (first, (end, _))))). (now digits ≡ digitTable) × ((at ≤ length (now text)) × (end ≤ cells)))
+read-line-asks κs a = asks-this
+
+pub furthest-asks : AsksExactly furthest.Asked (λ _ (text, (at, (first, (end, _)))). (at ≤ length (now text)) × (end ≤ cells))
+furthest-asks κs a = asks-this

@@ -56,7 +56,7 @@ pub words-are-their-bytes : (ws bs : List ℕ) → (All Word ws → wordsOf (byt
 words-are-their-bytes ws bs = (words-bytes ws, bytes-words bs)
 
 -- a number that tells the answer a, and what is known of a: 13 is told exactly of bad buffers, and at place 0
-bad-buffer : (n : ℕ) (a : Answer) {fine : Bool} → n ≡ numberOf a → Tells n a → (a .reason ≡ 13) ↔ (¬ T fine) → (fine ≡ false → 13 ≡ numberOf a) → BadBuffer n (T fine)
+pub bad-buffer : (n : ℕ) (a : Answer) {fine : Bool} → n ≡ numberOf a → Tells n a → (a .reason ≡ 13) ↔ (¬ T fine) → (fine ≡ false → 13 ≡ numberOf a) → BadBuffer n (T fine)
 bad-buffer n a e tells exactly first = (rw (tells .0) exactly, λ bad. e ∙ sym (first (false-of _ bad)))
 
 -- of reader and writer: x, y and z are the bytes that are lent, z those that may be changed
@@ -150,7 +150,7 @@ module _ (batch grants st : List ℕ) (n : ℕ) (left : List ℕ) (call : Readin
 -- ==== There and back: irangelda_write, then irangelda_read
 
 -- a test that cannot fail
-passes : (b : Bool) → ¬ ¬ T b → T b
+pub passes : (b : Bool) → ¬ ¬ T b → T b
 passes true h = tt
 passes false h = absurd (h (λ t. t))
 

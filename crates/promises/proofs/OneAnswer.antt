@@ -70,6 +70,10 @@ use Rattle.reader.proofs.read.Reads as read
 use Rattle.search.proofs.lowest_bad.Reads as lowest-bad
 use Rattle.writer.proofs.write.Reads as write
 use Rattle.lister.proofs.list.Reads as list
+use Rattle.line_reader.proofs.Whole.{line-once}
+use Rattle.line_reader.proofs.read_line.Reads as read-line
+use Rattle.line_places.proofs.furthest.Reads as furthest
+use Rattle.listing_reader.proofs.read_listing.Reads as read-listing
 use Rattle.emitter_3d.proofs.emit_3d.Reads as emit-3d
 use Rattle.emitter.proofs.emit.Reads as emit
 use Rattle.bodies.proofs.take_parameters.Reads as take-parameters
@@ -80,6 +84,7 @@ use Rattle.packets.proofs.read_packets.Reads as read-packets
 use Rattle.irangelda.proofs.irangelda_read.Reads as irangelda-read
 use Rattle.irangelda.proofs.irangelda_write.Reads as irangelda-write
 use Rattle.irangelda.proofs.irangelda_list.Reads as irangelda-list
+use Rattle.irangelda.proofs.irangelda_read_listing.Reads as irangelda-read-listing
 
 -- what is equal to one thing is equal
 one-answer {ℓ} : {A : Type ℓ} {x y z : A} → x ≡ z → y ≡ z → x ≡ y
@@ -297,6 +302,16 @@ write-one κs a r r' s s' p q = let same = one-answer (p .0) (q .0) in (same, on
 pub list-one : (κs : _) (a : _) (r r' : _) (s s' : _) → list.Learnt κs a r s → list.Learnt κs a r' s' → (r ≡ r') × (now (s .1 .0) ≡ now (s' .1 .0))
 list-one κs a r r' s s' p q = (one-answer (p .0) (q .0), one-answer (p .1) (q .1))
 
+-- no text has two lines at its front
+pub read-line-one : Determined read-line.Learnt
+read-line-one κs a r r' s s' p q = let same = line-once _ _ _ p q in ap₂ (λ (c v : ℕ). record { cell = c; value = v }) (same .0) (same .1)
+
+pub furthest-one : Determined furthest.Learnt
+furthest-one κs a r r' s s' p q = one-answer p q
+
+pub read-listing-one : (κs : _) (a : _) (r r' : _) (s s' : _) → read-listing.Learnt κs a r s → read-listing.Learnt κs a r' s' → (r ≡ r') × (now (s .1 .0) ≡ now (s' .1 .0))
+read-listing-one κs a r r' s s' p q = let same = one-answer (p .0) (q .0) in (same, one-answer (rw same at (p .1)) (q .1))
+
 pub emit-3d-one : (κs : _) (a : _) (r r' : _) (s s' : _) → emit-3d.Learnt κs a r s → emit-3d.Learnt κs a r' s' → now (s .1 .0) ≡ now (s' .1 .0)
 emit-3d-one κs a r r' s s' p q = one-answer p q
 
@@ -351,3 +366,7 @@ irangelda-write-one κs a r r' s s' p q = (one-answer (p .0) (q .0), one-answer 
 pub irangelda-list-one : (κs : _) (a : _) (r r' : _) (s s' : _) → irangelda-list.Learnt κs a r s → irangelda-list.Learnt κs a r' s'
     → (r ≡ r') × (now (s .1 .0) ≡ now (s' .1 .0))
 irangelda-list-one κs a r r' s s' p q = (one-answer (p .0) (q .0), one-answer (p .1) (q .1))
+
+pub irangelda-read-listing-one : (κs : _) (a : _) (r r' : _) (s s' : _) → irangelda-read-listing.Learnt κs a r s → irangelda-read-listing.Learnt κs a r' s'
+    → (r ≡ r') × (now (s .1 .0) ≡ now (s' .1 .0))
+irangelda-read-listing-one κs a r r' s s' p q = (one-answer (p .0) (q .0), one-answer (p .1) (q .1))

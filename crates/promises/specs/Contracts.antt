@@ -1,4 +1,4 @@
--- What the contracts of reader, writer and lister allow, and those of the calls of the driver: an answer, and what is left in the buffer
+-- What the contracts of reader, writer, lister and listing reader allow, and those of the calls of the driver: an answer, and what is left in the buffer
 -- that is lent to be changed.
 -- Assumes nothing.
 use mathlib.Core.Path.{_≡_}
@@ -15,7 +15,8 @@ use Rattle.meaning.specs.Answers.{numberOf, settle}
 use Rattle.meaning.specs.Reader.{readAnswer, readLeaves}
 use Rattle.meaning.specs.Writer.{written, writeAnswer}
 use Rattle.meaning.specs.Lister.{listAnswer, listLeaves}
-use Rattle.meaning.specs.Exported.{bufferFine, wordBufferFine, exportedRead, exportedReadLeaves, exportedWrite, exportedWriteLeaves, exportedList, exportedListLeaves}
+use Rattle.meaning.specs.ListingReader.{listingAnswer, listingLeaves}
+use Rattle.meaning.specs.Exported.{bufferFine, wordBufferFine, exportedRead, exportedReadLeaves, exportedWrite, exportedWriteLeaves, exportedList, exportedListLeaves, exportedReadListing, exportedReadListingLeaves}
 
 -- `reader::read` on the bytes of a batch, of a grant list and of a state answers a and leaves the bytes `left` of the state. The words
 -- over the front of the state's bytes are those that the definitions leave; bytes past the last whole word stay
@@ -33,6 +34,12 @@ Writing st grants out a left =
 abbrev pub Listing : List ℕ → List ℕ → Answer → List ℕ → Type 0
 Listing st out a left = (a ≡ listAnswer (wordsOf st) (length out)) × (left ≡ listLeaves (wordsOf st) out)
 
+-- `listing_reader::read_listing` on the bytes of a text and of a state answers a and leaves the bytes `left` of the state. As with the reader,
+-- the words over the front are those that the definitions leave
+abbrev pub ReadingListing : List ℕ → List ℕ → Answer → List ℕ → Type 0
+ReadingListing text st a left =
+    (a ≡ listingAnswer text (wordsOf st)) × (left ≡ settle a (over (bytesOf (listingLeaves text (wordsOf st))) st) st)
+
 -- ---- the calls of the driver
 
 -- `irangelda_read` on the bytes of a batch, of a grant list and of a state answers the number n and leaves the bytes `left` of the state
@@ -47,14 +54,18 @@ WritingBytes st grants out n left = (n ≡ numberOf (exportedWrite st grants out
 abbrev pub ListingBytes : List ℕ → List ℕ → ℕ → List ℕ → Type 0
 ListingBytes st out n left = (n ≡ numberOf (exportedList st out)) × (left ≡ exportedListLeaves st out)
 
+-- `irangelda_read_listing` on the bytes of a text and of a state answers n and leaves the bytes `left` of the state
+abbrev pub ReadingListingBytes : List ℕ → List ℕ → ℕ → List ℕ → Type 0
+ReadingListingBytes text st n left = (n ≡ numberOf (exportedReadListing text st)) × (left ≡ exportedReadListingLeaves text st)
+
 -- what 13 lets through: not Y13 "a buffer has more than 65,536 bytes, or a buffer of words has a length that is no multiple of 4". The
 -- buffers of reader and writer are words,
 abbrev pub WordBuffers : List ℕ → List ℕ → List ℕ → Type 0
 WordBuffers a b c = T (every wordBufferFine (a ∷ b ∷ c ∷ []))
 
--- and so is the lister's state; its output is text
+-- and so is the state of lister and listing reader; their other buffer is text
 abbrev pub ListerBuffers : List ℕ → List ℕ → Type 0
-ListerBuffers st out = T (wordBufferFine st && bufferFine out)
+ListerBuffers st text = T (wordBufferFine st && bufferFine text)
 
 -- C3 "A C call answers one number: place × 256 + reason.": its reason and its place are those of a
 abbrev pub Tells : ℕ → Answer → Type 0
