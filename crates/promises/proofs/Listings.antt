@@ -168,8 +168,10 @@ module _ (st out : List ℕ) (n : ℕ) (left : List ℕ) (call : ListingBytes st
       let whole : length st % 4 ≡ 0 = eqb-yes (and-yes (bufferFine st) _ (and-yes (wordBufferFine st) _ fine .0) .1) in
       let small : length out ≤ 65536 = leb-yes (and-yes (wordBufferFine st) _ fine .1) in
       let short : length (listing words) ≤ 65536 = omega (arith, listed .1) in
+      let few : length buffer ≤ 65536 = omega arith in
+      let even : length buffer % 4 ≡ 0 = omega arith in
       let fits : ListerBuffers buffer (listing words) =
-      yes-and (wordBufferFine buffer) _ (yes-and (bufferFine buffer) _ (yes-leb (omega arith)) (yes-eqb (omega arith))) (yes-leb short) in
+      yes-and (wordBufferFine buffer) _ (yes-and (bufferFine buffer) _ (yes-leb few) (yes-eqb even)) (yes-leb short) in
       let reader = read-listing-call-is-the-listing-reader (listing words) buffer m back read' fits in
       let state : Listable words = record { formed = listed .0; narrow = narrow-of words (words-small st bytes) low } in
       let r = listing-comes-back (listing words) buffer (reader .0) back (reader .2) (omega (arith, length-words buffer)) words (record { state = state; same = refl }) in
