@@ -2,22 +2,20 @@
 -- Assumes nothing.
 use mathlib.Core.Path.{_≡_, refl, sym, ap, ap₂, _∙_}
 use mathlib.Core.Bool.{Bool, true, false, cond, _&&_, not}
-use mathlib.Core.List.{List, [], _∷_, _++_}
+use mathlib.Core.List.{List, [], _∷_}
 use mathlib.Core.Logic.{_≢_, _⊎_, inl, inr}
-use Prim.Native.Nat.{ℕ, zero, suc, _+_, _*_, _-_, _/_, _%_, _≤_, _<_, _^_}
+use Prim.Native.Nat.{ℕ, _+_, _*_, _-_, _/_, _%_, _≤_, _<_}
 use native.Mathlib.Omega.{arith}
 use native.Mathlib.Decide.{decLt}
-use borrow.Author.Tests.{le-leb, lt-leb, le-ltb, eqb-true, ltb-false}
+use borrow.Author.Tests.{le-leb, lt-leb, eqb-true, ltb-false}
 use lib.Dec.{T, leb, ltb, eqb}
 use lib.ListN.{length, take, getD}
 use lib.Seq.{take-take}
 use mir.Facts.{and-yes, eqb-yes, ltb-yes, leb-yes}
 use Rattle.laws.specs.Lists.{All, every, from}
-use Rattle.laws.specs.Tests.{within}
-use Rattle.laws.proofs.Lists.{every-from, every-all}
-use Rattle.laws.proofs.Tests.{true-of}
+use Rattle.laws.proofs.Lists.{every-from}
 use Rattle.meaning.specs.Registers.{cells, firstVideo, endVideo}
-use Rattle.meaning.specs.Words.{Word, bits, wordsOf, bytesOf}
+use Rattle.meaning.specs.Words.{Word, wordsOf, bytesOf}
 use Rattle.meaning.specs.Lister.{digit, hex}
 use Rattle.meaning.proofs.Bytes.{words-bytes}
 use Rattle.registers.specs.Names.{typeOf, subTypeOf, addressOf, offsetOf}

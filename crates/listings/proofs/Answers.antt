@@ -4,7 +4,7 @@ use mathlib.Core.Path.{_≡_, refl, sym, ap, ap₂, _∙_}
 use mathlib.Core.Bool.{Bool, true, false}
 use mathlib.Core.List.{List, _++_}
 use mathlib.Core.Logic.{_≢_, _↔_}
-use Prim.Native.Nat.{ℕ, zero, suc, _≤_, _<_}
+use Prim.Native.Nat.{ℕ, _≤_, _<_}
 use native.Mathlib.Omega.{arith}
 use native.Mathlib.Decide.{ℕ-discrete}
 use borrow.Author.Tests.{eq-eqb, ne-eqb, eqb-true}
@@ -15,14 +15,13 @@ use lib.ListN.{length, take}
 use Rattle.meaning.specs.Registers.{cells}
 use Rattle.meaning.specs.State.{stateWords, marked, empty, applyAll}
 use Rattle.meaning.specs.Answers.{badState, success, answer, notListing}
-use Rattle.meaning.specs.Lister.{listing}
 use Rattle.meaning.proofs.Writing.{chosenFrom}
 use Rattle.meaning.proofs.Bytes.{exactly}
 use Rattle.meaning.proofs.States.{formed-iff, rebuilt}
-use Rattle.meaning.specs.Listings.{Listable, Listed, BeginsListing, LongestListing}
+use Rattle.meaning.specs.Listings.{Listed, BeginsListing, LongestListing}
 use Rattle.meaning.specs.ListingReader.{readText, listingAnswer, listingLeaves}
 use Rattle.meaning.specs.Reasons.{ListingReaderGives}
-use Rattle.listings.proofs.Tells.{Starts, Tells, starts-there}
+use Rattle.listings.proofs.Tells.{Starts, starts-there}
 use Rattle.listings.proofs.Count.{InText, some-listing, text-tells}
 use Rattle.listings.proofs.Listings.{listing-in, in-listed}
 

@@ -1,13 +1,12 @@
 -- The texts of k lines and the states that have them.
 -- Assumes nothing.
-use mathlib.Core.Path.{_≡_, refl, sym, ap, ap₂, _∙_}
+use mathlib.Core.Path.{_≡_, refl, sym, ap, _∙_}
 use mathlib.Core.Bool.{Bool, true, false}
 use mathlib.Core.List.{List, [], _∷_, _++_}
 use mathlib.Core.Logic.{_≢_}
 use Prim.Native.Nat.{ℕ, zero, suc, _+_, _≤_, _<_, _^_}
 use native.Mathlib.Omega.{arith}
-use native.Mathlib.Decide.{ℕ-discrete}
-use lib.ListN.{length, getD, set, length-set}
+use lib.ListN.{length, set, length-set}
 use lib.Seq.{getD-set-same, getD-set-other}
 use Rattle.laws.specs.Lists.{All, join}
 use Rattle.laws.proofs.Lists.{all-map}
@@ -18,7 +17,7 @@ use Rattle.meaning.specs.Writer.{ifSo}
 use Rattle.meaning.proofs.Writing.{chosenFrom}
 use Rattle.meaning.proofs.States.{untouched}
 use Rattle.meaning.specs.ListingReader.{Line, formOf, writeOf}
-use Rattle.listings.proofs.Tells.{This, Either, this, that}
+use Rattle.listings.proofs.Tells.{This, this, that}
 use Rattle.listings.proofs.Lines.{adds, InLines}
 use Rattle.listings.proofs.Texts.{textOf, text-follows, text-writes, OfValue, follows-text}
 

@@ -1,22 +1,22 @@
 -- What the reading of the whole text tells: the texts of the first line's count, byte by byte, and then of so many lines.
 -- Assumes nothing.
-use mathlib.Core.Path.{_≡_, refl, sym, ap, _∙_}
+use mathlib.Core.Path.{_≡_, refl}
 use mathlib.Core.Bool.{Bool, true, false, cond, _&&_}
 use mathlib.Core.List.{List, [], _∷_, _++_}
-use Prim.Native.Nat.{ℕ, zero, suc, _+_, _*_, _-_, _≤_, _<_, max}
+use Prim.Native.Nat.{ℕ, zero, suc, _+_, _*_, _-_, _≤_, max}
 use native.Mathlib.Omega.{arith}
-use borrow.Author.Tests.{eqb-true, leb-true, leb-false}
+use borrow.Author.Tests.{eqb-true}
 use lib.Dec.{T, eqb, leb, ltb}
 use lib.ListN.{length, take, drop}
-use mir.Facts.{and-yes, yes-eqb, eqb-yes, leb-yes}
+use mir.Facts.{and-yes, yes-eqb, leb-yes}
 use Rattle.laws.specs.Tests.{within}
 use Rattle.laws.proofs.Tests.{within-iff, fails-of, holds-of}
 use Rattle.meaning.specs.Registers.{cells}
 use Rattle.meaning.specs.State.{Write}
-use Rattle.meaning.specs.Answers.{answer, notListing}
-use Rattle.meaning.specs.ListingReader.{Slot, along, headForm, tableLines, Outcome, refused, further, atLeast, readLines, readCount, readFirst, readText}
+use Rattle.meaning.specs.Answers.{answer}
+use Rattle.meaning.specs.ListingReader.{along, headForm, tableLines, Outcome, refused, further, atLeast, readLines, readCount, readFirst, readText}
 use Rattle.listings.proofs.Forms.{some-text}
-use Rattle.listings.proofs.Tells.{Texts, Starts, Some, Tells, tells-none, starts-there, This, Either, this, that, tells-whole, tells-left}
+use Rattle.listings.proofs.Tells.{Texts, Starts, Some, Tells, tells-none, starts-there, Either, this, tells-whole, tells-left}
 use Rattle.listings.proofs.Lines.{InLines, some-lines, lines-tell}
 use Rattle.listings.proofs.Table.{lines-101, lines-apart}
 

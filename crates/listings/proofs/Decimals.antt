@@ -1,13 +1,12 @@
 -- The count in decimal is read digit by digit.
 -- Assumes nothing.
-use mathlib.Core.Path.{_≡_, refl, sym, ap, _∙_}
-use mathlib.Core.Bool.{Bool, true, false, cond, _&&_}
+use mathlib.Core.Path.{_≡_, refl, _∙_}
 use mathlib.Core.List.{List, [], _∷_, _++_, append-assoc}
-use Prim.Native.Nat.{ℕ, zero, suc, _+_, _*_, _-_, _/_, _%_, _≤_, _<_}
+use Prim.Native.Nat.{ℕ, _+_, _*_, _-_, _/_, _%_, _≤_, _<_}
 use native.Mathlib.Omega.{arith}
 use native.Mathlib.Decide.{decLt}
 use borrow.Author.Tests.{lt-ltb}
-use lib.Dec.{T, leb, ltb}
+use lib.Dec.{T, ltb}
 use mir.Facts.{and-yes, yes-and, yes-ltb, ltb-yes, yes-leb, leb-yes}
 use Rattle.laws.specs.Tests.{within}
 use Rattle.laws.proofs.Tests.{within-iff}
@@ -17,7 +16,7 @@ use Rattle.meaning.specs.Lister.{digit, decimal}
 use Rattle.lister.proofs.Head.{one-digit, two-digits, three-digits}
 use Rattle.meaning.specs.ListingReader.{tableLines}
 use Rattle.listings.proofs.Lines.{InLines}
-use Rattle.listings.proofs.Count.{goesOn, ends, goes, InCount, InFirst}
+use Rattle.listings.proofs.Count.{ends, goes, InCount, InFirst}
 
 decimal-digit : (d : ℕ) → d < 10 → digit d ≡ 48 + d
 unfolding digit

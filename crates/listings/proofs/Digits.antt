@@ -1,9 +1,9 @@
 -- Hex digits and the number that they make.
 -- Assumes nothing.
-use mathlib.Core.Path.{_≡_, refl, sym, ap, ap₂, _∙_}
-use mathlib.Core.Bool.{Bool, true, false, cond, _||_}
+use mathlib.Core.Path.{_≡_, refl, ap, _∙_}
+use mathlib.Core.Bool.{true, false}
 use mathlib.Core.Logic.{inl, inr}
-use mathlib.Core.List.{List, [], _∷_, _++_}
+use mathlib.Core.List.{List, _∷_}
 use Prim.Native.Nat.{ℕ, zero, suc, _+_, _*_, _-_, _/_, _%_, _≤_, _<_, _^_}
 use native.Mathlib.Omega.{arith}
 use native.Mathlib.Decide.{decLt}
@@ -15,7 +15,7 @@ use mir.Facts.{or-yes}
 use Rattle.laws.specs.Tests.{within}
 use Rattle.laws.proofs.Tests.{within-iff, or-left, or-right}
 use Rattle.meaning.specs.Lister.{digit, hex}
-use Rattle.meaning.specs.ListingReader.{Slot, anyDigit, isHex, digitWorth, worth}
+use Rattle.meaning.specs.ListingReader.{anyDigit, isHex, digitWorth, worth}
 use Rattle.listings.proofs.Forms.{Follows, end, next}
 
 -- ---- one digit

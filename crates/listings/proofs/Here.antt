@@ -1,26 +1,24 @@
 -- The line of a cell at the front of a text, and what the reading of lines then comes to: it is read, or how far a text goes along one.
 -- Assumes nothing.
-use mathlib.Core.Path.{_≡_, refl, sym, ap, ap₂, _∙_}
+use mathlib.Core.Path.{_≡_, refl, sym, ap, _∙_}
 use mathlib.Core.Bool.{Bool, true, false, cond}
 use mathlib.Core.Logic.{_≢_}
 use mathlib.Core.List.{List, [], _∷_, _++_, map}
-use Prim.Native.Nat.{ℕ, zero, suc, _+_, _*_, _-_, _/_, _≤_, _<_, _^_, max}
+use Prim.Native.Nat.{ℕ, zero, suc, _+_, _-_, _/_, _≤_, _<_, _^_, max}
 use native.Mathlib.Omega.{arith}
 use native.Mathlib.Decide.{decLt, ℕ-discrete}
 use borrow.Author.Tests.{eq-eqb, ne-eqb, le-leb, lt-leb}
 use lib.Dec.{T, eqb}
-use lib.ListN.{length, take, drop, take-append-drop}
+use lib.ListN.{length, drop, take-append-drop}
 use mir.Facts.{and-yes, eqb-yes, yes-eqb}
 use Rattle.laws.specs.Lists.{every, from}
 use Rattle.laws.proofs.Tests.{holds-of}
-use Rattle.meaning.specs.Registers.{cells, firstVideo, endVideo, cell, registerAt}
+use Rattle.meaning.specs.Registers.{cells, firstVideo, cell, registerAt}
 use Rattle.meaning.specs.State.{Write}
-use Rattle.meaning.specs.Text.{ascii}
 use Rattle.meaning.specs.Lister.{digit, hex}
-use Rattle.meaning.specs.ListingReader.{Slot, fixed, anyDigit, Line, along, formOf, writeOf, tableLines, Outcome, refused, further, with, atLeast, readLines}
-use Rattle.lines.specs.Lines.{valueText}
+use Rattle.meaning.specs.ListingReader.{Slot, fixed, anyDigit, Line, along, formOf, writeOf, Outcome, refused, further, with, atLeast, readLines}
 use Rattle.listings.specs.Lines.{name3D, nameVideo, nameText, lineText, LineHere, lineFor, linesFrom, furthestOf}
-use Rattle.listings.proofs.Forms.{Follows, follows-length, whole-follows, follows-whole, apart, apart-along}
+use Rattle.listings.proofs.Forms.{follows-length, whole-follows, follows-whole, apart, apart-along}
 use Rattle.listings.proofs.Lines.{allApart}
 use Rattle.listings.proofs.Numbers.{by-number, lines-next, lines-left, line-3D, line-video, line-cell, width-3D, width-video}
 use Rattle.listings.proofs.Table.{lines-apart}

@@ -1,6 +1,6 @@
 -- What the reading of lines tells: the texts of k lines of some of the cells, in their order.
 -- Assumes nothing.
-use mathlib.Core.Path.{_≡_, refl, sym, ap, _∙_}
+use mathlib.Core.Path.{_≡_, refl, sym, ap}
 use mathlib.Core.Bool.{Bool, true, false, cond, _&&_}
 use mathlib.Core.List.{List, [], _∷_, _++_}
 use Prim.Native.Nat.{ℕ, zero, suc, _+_, _≤_, _<_}
@@ -13,9 +13,9 @@ use Rattle.laws.specs.Lists.{All, every}
 use Rattle.laws.proofs.Lists.{every-all}
 use Rattle.laws.proofs.Tests.{fails-of}
 use Rattle.meaning.specs.State.{Write}
-use Rattle.meaning.specs.ListingReader.{Slot, along, Line, formOf, writeOf, Outcome, refused, further, with, atLeast, readLines}
+use Rattle.meaning.specs.ListingReader.{Slot, along, Line, formOf, writeOf, refused, further, with, atLeast, readLines}
 use Rattle.listings.proofs.Forms.{Meets, inside, beyond, meets, some-text, apart, apart-along}
-use Rattle.listings.proofs.Tells.{Texts, Starts, Some, Tells, tells-none, This, Either, this, that, tells-whole, tells-left}
+use Rattle.listings.proofs.Tells.{Texts, Starts, Some, Tells, tells-none, Either, this, that, tells-whole, tells-left}
 
 -- what a line adds
 abbrev pub adds : Line → List ℕ → List Write → List Write

@@ -1,7 +1,7 @@
 -- The lines by cell number are those of the table.
 -- Assumes nothing.
 use mathlib.Core.Path.{_≡_, refl, ap}
-use mathlib.Core.List.{List, _∷_, _++_, map}
+use mathlib.Core.List.{_∷_, _++_, map}
 use Prim.Native.Nat.{ℕ, zero, suc, _+_, _-_, _/_, _≤_, _<_, _^_}
 use native.Mathlib.Omega.{arith}
 use native.Mathlib.Decide.{decLt}
@@ -14,10 +14,10 @@ use Rattle.laws.proofs.Lists.{every-from}
 use Rattle.meaning.specs.Registers.{cells, firstVideo, endVideo, cell, targetGroup, stage, sample, overlay, scaler, sections, registerAmong, registerIn, registerAt}
 use Rattle.meaning.specs.Text.{ascii}
 use Rattle.meaning.specs.Lister.{digit, hex}
-use Rattle.meaning.specs.ListingReader.{Line, tableLines, formOf}
+use Rattle.meaning.specs.ListingReader.{Line, tableLines}
 use Rattle.registers.specs.Names.{typeOf, subTypeOf, addressOf, offsetOf}
-use Rattle.lines.specs.Lines.{cellLine3D, cellLineVideo, valueText}
-use Rattle.listings.specs.Lines.{name3D, nameVideo, nameText, lineText, lineFor, linesFrom}
+use Rattle.lines.specs.Lines.{cellLine3D, cellLineVideo}
+use Rattle.listings.specs.Lines.{name3D, nameVideo, lineFor, linesFrom}
 use Rattle.listings.proofs.Texts.{textOf}
 
 pub by-number : tableLines ≡ linesFrom 0

@@ -1,21 +1,17 @@
 -- What a reading tells of a set of texts, and how that carries over to texts that start with a form.
 -- Assumes nothing.
 use mathlib.Core.Path.{_≡_, refl, sym, ap, subst, _∙_}
-use mathlib.Core.Bool.{Bool, true, false, cond}
-use mathlib.Core.List.{List, [], _∷_, _++_, append-assoc, append-nil}
+use mathlib.Core.List.{List, [], _++_, append-assoc, append-nil}
 use mathlib.Core.Logic.{_≢_}
 use Prim.Native.Nat.{ℕ, zero, suc, _+_, _≤_, _<_, max}
 use native.Mathlib.Omega.{arith}
 use native.Mathlib.Decide.{decLt}
-use borrow.Author.Tests.{eqb-true, eqb-false, leb-true, leb-false}
-use lib.Dec.{T, eqb, leb}
-use lib.ListN.{length, take, drop, length-drop, length-append, take-append-drop}
+use lib.ListN.{length, take, drop, length-drop, take-append-drop}
 use lib.Seq.{take-add, take-length, drop-at}
-use Rattle.meaning.specs.declared.Answer.{Answer}
 use Rattle.meaning.specs.State.{Write}
 use Rattle.meaning.specs.Answers.{answer, notListing}
-use Rattle.meaning.specs.ListingReader.{Slot, along, Outcome, refused, further, atLeast}
-use Rattle.listings.proofs.Forms.{Follows, follows-length, along-within, whole-follows, follows-whole, Meets, inside, beyond, meets, Completed, completed}
+use Rattle.meaning.specs.ListingReader.{Slot, along, Outcome, refused, atLeast}
+use Rattle.listings.proofs.Forms.{Follows, follows-length, along-within, whole-follows, follows-whole, Meets, inside, beyond, meets, completed}
 
 -- texts, and what each writes
 abbrev pub Texts : Type 1

@@ -1,14 +1,11 @@
 -- The texts that follow a line's form are its lines for the values that fit.
 -- Assumes nothing.
 use mathlib.Core.Path.{_≡_, refl, sym, ap, ap₂, _∙_}
-use mathlib.Core.List.{List, [], _∷_, _++_, append-assoc, append-nil, map}
-use Prim.Native.Nat.{ℕ, zero, suc, _+_, _<_, _^_}
-use native.Mathlib.Omega.{arith}
-use lib.Dec.{T}
+use mathlib.Core.List.{List, [], _∷_, _++_, append-assoc, map}
+use Prim.Native.Nat.{ℕ, _+_, _<_, _^_}
 use lib.ListN.{length, take, drop, replicate}
 use lib.Seq.{take-at, drop-at}
 use mir.Facts.{eqb-yes, yes-eqb}
-use Rattle.meaning.specs.State.{Write}
 use Rattle.meaning.specs.Text.{ascii}
 use Rattle.meaning.specs.Lister.{hex}
 use Rattle.meaning.specs.ListingReader.{Slot, fixed, anyDigit, worth, Line, formOf, writeOf}
