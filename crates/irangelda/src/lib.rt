@@ -1,5 +1,6 @@
 // The calls of the driver: every buffer is bytes, and the answer is one number.
 ghost use mathlib.Core.Path.{_≡_};
+ghost use mathlib.Core.Bool.{_&&_};
 ghost use mathlib.Core.List.{[], _∷_};
 ghost use Prim.Native.Nat.{_≤_};
 ghost use Rattle.laws.specs.Lists.{every};
@@ -42,6 +43,16 @@ fn word_buffers_fine(first: &[u8], second: &[u8], third: &[u8]) -> bool
     (first.len() | second.len() | third.len()) % 4 == 0
 }
 
+// And of the two that lister and listing reader are lent: a state, which is words, and a text, which is bytes.
+fn text_buffers_fine(state: &[u8], text: &[u8]) -> bool
+    ensures fine { λ r. ⌜ r ≡ exported.wordBufferFine (now (state .entry)) && exported.bufferFine (now (text .entry)) ⌝ }
+{
+    if !word_buffer_fine(state) {
+        return false;
+    }
+    buffer_fine(text)
+}
+
 // The answer as one number. No place is larger than a buffer is long.
 fn number(answer: Answer) -> u64
     requires place { ⌜ answer .place ≤ exported.mostBytes ⌝ }
@@ -81,10 +92,7 @@ pub extern "C" fn irangelda_list(state: &[u8], out: &mut [u8]) -> u64
     ensures number { λ r. ⌜ r ≡ numberOf (exported.exportedList (now (state .entry)) (now (out .entry))) ⌝ }
     ensures bytes { λ _. ⌜ now (out .exit) ≡ exported.exportedListLeaves (now (state .entry)) (now (out .entry)) ⌝ }
 {
-    if !word_buffer_fine(state) {
-        return BAD_BUFFER;
-    }
-    if !buffer_fine(out) {
+    if !text_buffers_fine(state, out) {
         return BAD_BUFFER;
     }
     number(lister::list(state, out))
@@ -96,10 +104,7 @@ pub extern "C" fn irangelda_read_listing(listing: &[u8], state: &mut [u8]) -> u6
     ensures number { λ r. ⌜ r ≡ numberOf (exported.exportedReadListing (now (listing .entry)) (now (state .entry))) ⌝ }
     ensures bytes { λ _. ⌜ now (state .exit) ≡ exported.exportedReadListingLeaves (now (listing .entry)) (now (state .entry)) ⌝ }
 {
-    if !word_buffer_fine(state) {
-        return BAD_BUFFER;
-    }
-    if !buffer_fine(listing) {
+    if !text_buffers_fine(state, listing) {
         return BAD_BUFFER;
     }
     number(listing_reader::read_listing(listing, state))
