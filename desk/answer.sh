@@ -5,7 +5,7 @@
 
 # ---- exit statuses
 
-LISTED=0 REFUSED=1 WRONG_USE=2 FAILED=3
+DONE=0 REFUSED=1 WRONG_USE=2 FAILED=3
 
 wrong_use() {
     tell "$1; see ./irangelda help"
@@ -42,3 +42,6 @@ run_program() { # NAME
 
 # The answer, byte for byte.
 pass_on() { cat "$answer" || fail 'the output could not be written'; }
+
+# Lines of text. Not every echo tells when it cannot write; cat does.
+say() { echo "$1" | cat || fail 'the output could not be written'; }

@@ -8,18 +8,21 @@ irangelda: what a batch of register writes does, for the support desk
                             state; each WORD of the batch is 1 to 8 hex digits
   ./irangelda list <FILE    the same for a batch as bytes, the lowest byte of a
                             word first; not from a terminal
+  ./irangelda back <FILE    from a listing back to words that list takes
   ./irangelda help          this page
 
   For example: ./irangelda list 0002043C 00010000 50001000
 
-list reads the batch under one grant only, that of case K1: role 1, start
-00100000h, length and reach 00080000h. If it is refused, one line says so,
-reason=R place=P: docs/DRIVER.md has the reasons, and places are words of the
-batch from 0.
+Both know one grant only, that of case K1: role 1, start 00100000h, length and
+reach 00080000h. A batch or a text that is refused gets one line, reason=R
+place=P: docs/DRIVER.md has the reasons, and places are counted from 0, in words
+of the batch or bytes of the text. Of a listing back says listing=whole words=N
+and gives the words in the next line; or listing=whole reason=12 place=C, if no
+batch makes its state under that grant: C is the cell in the way, see
+docs/REGISTERS.md. Whole tells nothing of masks, value rules or grants.
 
-Exit status: 0 listed, 1 refused, 2 wrong use, 3 a failure: it could not be
-built or run, or its output could not be written. 2 and 3 say why on standard
-error.
+Exit status: 0 done, 1 refused, 2 wrong use, 3 a failure: it could not be built
+or run, or its output could not be written. 2 and 3 say why on standard error.
 
 The first time, and after a source has changed, it proves and builds what it
 runs. That takes some minutes and needs rt, Rattle's command.
@@ -43,10 +46,22 @@ list() { # WORD..
     fi
     read -r first <"$answer"
     case $first in
-    cells=*) status=$LISTED ;;
+    cells=*) status=$DONE ;;
     reason=*) status=$REFUSED ;;
     *) fail 'list_batch printed neither a listing nor a refusal' ;;
     esac
     pass_on
+    exit "$status"
+}
+
+# The words of a batch that makes the state of a listing, under the grant of case K1.
+back() {
+    [ $# -eq 0 ] || wrong_use "'$1' is one word too many: the listing is read from standard input"
+    is_open 0 || wrong_use 'standard input is closed'
+    [ ! -t 0 ] || wrong_use 'standard input is a terminal'
+    prepare_answer
+    run_program restore_listing
+    take_apart || fail 'restore_listing wrote something that is no answer'
+    say "$text"
     exit "$status"
 }

@@ -19,10 +19,18 @@ both_ways() { # NAME STATUS WORDS..
     printed "$name"
 }
 
+# Each listing is kept, to be read back in listings.sh.
+listings=0
+keep_listing() {
+    listings=$((listings + 1))
+    cp "$work/want" "$work/listing.$listings"
+}
+
 # A batch that is accepted, and the lines of its listing; or refused.
 accepted() { # NAME LINES WORDS..
     name=$1
     printf '%s\n' "$2" >"$work/want"
+    keep_listing
     shift 2
     both_ways "$name" 0 "$@"
 }
@@ -122,6 +130,7 @@ large() { # BYTES WORDS..: so many bytes of those packets, and the words behind 
 }
 
 printf 'cells=2\nreg=01.00.3f val=00400400\nreg=01.00.50 val=00001000\n' >"$work/want"
+keep_listing
 large 65520 0003043C 00010000 50001000 3F400400 >"$work/in"
 as_bytes '65,536 bytes' 0
 
@@ -156,8 +165,8 @@ printed '16,385 words'
 # ---- input that comes in pieces
 
 # A variable that is set behind a pipe is lost there.
-from_pipe() {
-    desk list
+from_pipe() { # WORD
+    desk "$1"
     echo "$status" >"$work/status"
 }
 came_in_pieces() { # NAME STATUS
@@ -173,13 +182,13 @@ printf 'cells=1\nreg=01.00.50 val=00001000\n' >"$work/want"
     bytes 0002043C 00010000 50001000 | tail -c 11 | head -c 6
     sleep 1
     bytes 0002043C 00010000 50001000 | tail -c 5
-} | from_pipe
+} | from_pipe list
 came_in_pieces 'three pieces' 0
 
 printf 'cells=2\nreg=01.00.3f val=00400400\nreg=01.00.50 val=00001000\n' >"$work/want"
-large 65520 0003043C 00010000 50001000 3F400400 | dd bs=100 2>/dev/null | from_pipe
+large 65520 0003043C 00010000 50001000 3F400400 | dd bs=100 2>/dev/null | from_pipe list
 came_in_pieces '65,536 bytes in pieces of 100' 0
 
 printf 'reason=13 place=0\n' >"$work/want"
-large 65520 0003043C 00010000 50001000 3F400400 00022208 | dd bs=100 2>/dev/null | from_pipe
+large 65520 0003043C 00010000 50001000 3F400400 00022208 | dd bs=100 2>/dev/null | from_pipe list
 came_in_pieces '65,540 bytes in pieces of 100' 1

@@ -4,7 +4,7 @@
 made=$work/made stand=$work/stand
 mkdir -p "$made/crates/leaf/src" "$made/crates/list_batch/src" "$stand"
 cp -R "$root/irangelda" "$root/desk" "$made"
-printf 'leaf:\nirangelda: leaf\nlist_batch: leaf irangelda io\n' >"$made/crates.txt"
+printf 'leaf:\nirangelda: leaf\nlist_batch: leaf irangelda io\nrestore_listing: leaf irangelda io\n' >"$made/crates.txt"
 source=$made/crates/leaf/src/lib.rt
 echo first >"$source"
 echo kit-1 >"$stand/version"
@@ -24,11 +24,11 @@ echo 'rt: leaf proved (1 s)'
 mkdir -p target/bin target/stamp target/staticlib
 case $* in
 staticlib*) echo "$source" >target/staticlib/libirangelda.a ;;
-*list_batch*)
-    [ "$(cat target/stamp/list_batch 2>/dev/null)" != "$source" ] || exit 0
-    printf '#!/bin/sh\ncat >/dev/null\n%s\n' "$(cat "$stand/prints")" | sed "s/SOURCE/$source/" >target/bin/list_batch
-    chmod +x target/bin/list_batch
-    echo "$source" >target/stamp/list_batch
+*list_batch* | *restore_listing*)
+    [ "$(cat "target/stamp/$2" 2>/dev/null)" != "$source" ] || exit 0
+    printf '#!/bin/sh\ncat >/dev/null\n%s\n' "$(cat "$stand/prints")" | sed "s/SOURCE/$source/" >"target/bin/$2"
+    chmod +x "target/bin/$2"
+    echo "$source" >"target/stamp/$2"
     ;;
 esac
 END
@@ -153,6 +153,24 @@ prints 'a program that prints nothing' : 'neither a listing nor a refusal'
 prints 'a program that prints something else' 'echo SOURCE; echo cells=1' 'neither a listing nor a refusal'
 prints 'a program that fails' 'echo cells=1; exit 7' 'ended with status 7'
 prints 'a program that dies' 'echo cells=1; kill -KILL $$' 'ended with status 137'
+
+writes() { # NAME BYTES
+    echo "printf '$2'" >"$stand/prints"
+    rm -f "$made/target/bin/restore_listing"
+    desk back </dev/null
+    ended "$1" 3
+    printed_nothing "$1"
+    said "$1" 'something that is no answer'
+}
+done_8='\0\010\0\0\0\0\0\0' done_1='\0\001\0\0\0\0\0\0' refused_8='\023\010\0\0\0\0\0\0'
+writes 'no number' ''
+writes 'part of a number' '\023\010\0'
+writes 'a refusal and a byte' "$refused_8\0"
+writes 'success alone' "$done_8"
+writes 'a refusal of the writer and a byte' "$done_8$refused_8\0"
+writes 'a word fewer than told' "$done_8$done_1"
+writes 'part of a word' "$done_8$done_1\074\004\002"
+writes 'a word more than told' "$done_8$done_1\074\004\002\0\0\0\001\0"
 
 # ---- an archive is as fresh
 

@@ -15,7 +15,7 @@ words=$(sed -n 's/^\([a-z |]*\)) "\$@" ;;$/\1/p' "$command" | tr -d '|')
 for word in $words; do
     said "help of $word" "^  ./irangelda $word "
 done
-for text in '0 listed' '1 refused' '2 wrong use' '3 a failure'; do
+for text in '0 done' '1 refused' '2 wrong use' '3 a failure'; do
     said 'help of exit statuses' "$text"
 done
 

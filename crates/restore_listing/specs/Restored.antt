@@ -1,5 +1,5 @@
--- What the program writes: P7 "the listing reader's answer as a C call gives it", "the writer's answer in the same way, and then the words of
--- the batch if there is one".
+-- What the program writes: P7 "the listing reader's answer as a C call gives it", then P7 "the writer's answer in the same way, and then the
+-- words of the batch if there is one".
 -- Assumes nothing.
 use mathlib.Core.Bool.{cond}
 use mathlib.Core.List.{List, [], _∷_, _++_}
@@ -57,7 +57,7 @@ rewritten st = numberBytes (numberOf (writerAnswered st)) ++ batchBytes st
 
 -- ---- what is written
 
--- P7 "the listing reader's answer", and "if that is success" what the writer makes of the state
+-- P7 "It writes the listing reader's answer", and P7 "if that is success" what the writer makes of the state
 unfoldable pub restored : List ℕ → List ℕ
 restored text = numberBytes (numberOf (answered text)) ++ cond (eqb (answered text .reason) success) (rewritten (stateRead text)) []
 
