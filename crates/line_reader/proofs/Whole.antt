@@ -6,14 +6,13 @@ use mathlib.Core.List.{List, _++_, append-assoc}
 use Prim.Native.Nat.{ℕ, _+_, _≤_, _<_, _^_}
 use native.Mathlib.Omega.{arith}
 use native.Mathlib.Decide.{decLt}
-use lib.ListN.{length, take, drop, length-append, length-take, length-drop}
-use lib.Seq.{take-add, take-take, take-at, drop-at, drop-drop}
+use lib.ListN.{length, take, drop, length-append, length-take}
+use lib.Seq.{take-add, take-take, take-at, drop-at}
 use Rattle.meaning.specs.Registers.{cells, firstVideo, cell, registerAt}
-use Rattle.meaning.specs.Words.{Word}
 use Rattle.meaning.specs.Lister.{hex}
 use Rattle.lines.specs.Lines.{valueText}
 use Rattle.listings.specs.Lines.{nameText, lineText, LineHere}
-use Rattle.listings.proofs.Numbers.{width-3D, width-video}
+use Rattle.listings.proofs.Numbers.{width-3D, width-video, value-word}
 use Rattle.line_reader.specs.Read.{NameAt, ValueAt, LineAt}
 use Rattle.line_reader.proofs.Names.{length-3D, length-video}
 use Rattle.line_reader.proofs.Values.{standing}
@@ -46,13 +45,6 @@ module _ (xs : List ℕ) (d u : ℕ) (h : LineHere xs d u) where
       let d' : drop name-end xs ≡ valueText u ++ drop (name-end + 14) xs =
       ap (drop name-end) (s ∙ append-assoc (nameText d) (valueText u) _) ∙ drop-at (nameText d) _ name-end refl in
       ap (take 14) d' ∙ take-at (valueText u) _ 14 (value-length u)
-
--- every value that fits its register is a word
-pub here-word : (c v : ℕ) → c < cells → v < 2 ^ registerAt (cell c) .width → Word v
-here-word c v l n = elim (decLt c firstVideo) [
-  | yes h ↦ omega (arith, rw (width-3D c h) at n)
-  | no h ↦ rw (width-video c (omega arith) l) at n
-]
 
 -- a name is short
 pub name-ends : (xs : List ℕ) {n e : ℕ} → NameAt xs n e → n < cells → e ≤ 12
@@ -95,7 +87,7 @@ module _ (xs : List ℕ) (first end : ℕ) (in-table : end ≤ cells) {c v : ℕ
         same-value : (d u : ℕ) → d < end → LineHere xs d u → (fine ≡ true) × (value ≡ u)
         same-value d u b h =
             let at : e ≡ length (nameText d) = ends ∙ ap (λ (x : ℕ). length (nameText x)) (its d u b h) in
-            stands .only u (here-word d u (omega arith) (h .narrow)) (rw at (here-value xs d u h))
+            stands .only u (value-word d u (omega arith) (h .narrow)) (rw at (here-value xs d u h))
 
         pub no-value : fine ≡ false → LineAt xs first end c v
         no-value f = refuted (λ d u a b h. true≢false (sym (same-value d u b h .0) ∙ f))
@@ -123,7 +115,7 @@ module _ (xs : List ℕ) (first end : ℕ) (in-table : end ≤ cells) {n e : ℕ
         only = λ d u a b h.
             let same : n ≡ d = name .only d (omega arith) (here-name xs d u h) in
             let at : e ≡ length (nameText d) = p .0 ∙ ap (λ (x : ℕ). length (nameText x)) same in
-            (same, stands .only u (here-word d u (omega arith) (h .narrow)) (rw at (here-value xs d u h)) .1);
+            (same, stands .only u (value-word d u (omega arith) (h .narrow)) (rw at (here-value xs d u h)) .1);
         none = λ l. absurd (omega arith);
       }
 

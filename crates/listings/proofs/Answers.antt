@@ -2,25 +2,28 @@
 -- Assumes nothing.
 use mathlib.Core.Path.{_≡_, refl, sym, ap, ap₂, _∙_}
 use mathlib.Core.Bool.{Bool, true, false}
-use mathlib.Core.List.{List, _++_}
+use mathlib.Core.List.{List, [], _∷_, _++_}
 use mathlib.Core.Logic.{_≢_, _↔_}
-use Prim.Native.Nat.{ℕ, _≤_, _<_}
+use Prim.Native.Nat.{ℕ, suc, _+_, _-_, _≤_, _<_}
 use native.Mathlib.Omega.{arith}
-use native.Mathlib.Decide.{ℕ-discrete}
+use native.Mathlib.Decide.{decLt, ℕ-discrete}
 use borrow.Author.Tests.{eq-eqb, ne-eqb, eqb-true}
 use lib.Dec.{eqb}
 use mir.Facts.{yes-eqb}
 use Rattle.laws.proofs.Tests.{fails-of}
-use lib.ListN.{length, take}
+use lib.ListN.{length, take, getD}
+use Rattle.laws.specs.Lists.{All}
+use Rattle.meaning.specs.Words.{Word}
 use Rattle.meaning.specs.Registers.{cells}
 use Rattle.meaning.specs.State.{stateWords, marked, empty, applyAll}
 use Rattle.meaning.specs.Answers.{badState, success, answer, notListing}
 use Rattle.meaning.proofs.Writing.{chosenFrom}
 use Rattle.meaning.proofs.Bytes.{exactly}
 use Rattle.meaning.proofs.States.{formed-iff, rebuilt}
-use Rattle.meaning.specs.Listings.{Listed, BeginsListing, LongestListing}
+use Rattle.meaning.specs.Listings.{Listable, Listed, BeginsListing, LongestListing}
 use Rattle.meaning.specs.ListingReader.{readText, listingAnswer, listingLeaves}
 use Rattle.meaning.specs.Reasons.{ListingReaderGives}
+use Rattle.listings.proofs.Numbers.{value-word}
 use Rattle.listings.proofs.Tells.{Starts, starts-there}
 use Rattle.listings.proofs.Count.{InText, some-listing, text-tells}
 use Rattle.listings.proofs.Listings.{listing-in, in-listed}
@@ -157,3 +160,21 @@ reason-is text old = by (each-listing-reason text old)
 
 pub listing-exactly : (text old : List ℕ) (r p : ℕ) → (listingAnswer text old ≡ answer r p) ↔ ListingReaderGives text old r p
 listing-exactly text old = exactly (listingAnswer text old) (ListingReaderGives text old) (each-listing-reason text old) (λ r p. each-listing-reason-exactly text old)
+
+-- ---- a state that has a listing is words
+
+all-words : (l : List ℕ) → ((i : ℕ) → i < length l → Word (getD l i 0)) → All Word l
+all-words [] h = tt
+all-words (x ∷ l) h = (h 0 (omega arith), all-words l (λ i k. h (suc i) (omega arith)))
+
+pub listable-words : (st : List ℕ) → Listable st → (length st ≡ stateWords) × All Word st
+listable-words st h =
+    let f = formed-iff st .0 (h .formed) in (
+      f .size,
+      all-words st (λ i l. elim (decLt i cells) [
+        | yes k ↦ value-word i _ k (h .narrow i k)
+        | no k ↦
+            let e : cells + (i - cells) ≡ i = omega arith in
+            omega (arith, rw e at (f .mark (i - cells) (omega (arith, f .size))))
+      ]),
+    )

@@ -11,6 +11,7 @@ use lib.ListN.{length}
 use mir.Facts.{eqb-yes}
 use Rattle.laws.specs.Lists.{every, from}
 use Rattle.laws.proofs.Lists.{every-from}
+use Rattle.meaning.specs.Words.{Word}
 use Rattle.meaning.specs.Registers.{cells, firstVideo, endVideo, cell, targetGroup, stage, sample, overlay, scaler, sections, registerAmong, registerIn, registerAt}
 use Rattle.meaning.specs.Text.{ascii}
 use Rattle.meaning.specs.Lister.{digit, hex}
@@ -67,6 +68,13 @@ width-3D c l = eqb-yes (every-from (λ c. eqb (registerAt (cell c) .width) 24) 0
 
 pub width-video : (c : ℕ) → firstVideo ≤ c → c < endVideo → registerAt (cell c) .width ≡ 32
 width-video c l h = eqb-yes (every-from (λ c. eqb (registerAt (cell c) .width) 32) firstVideo (endVideo - firstVideo) (widths .1) c l (omega arith))
+
+-- every value that fits its register is a word
+pub value-word : (c v : ℕ) → c < cells → v < 2 ^ registerAt (cell c) .width → Word v
+value-word c v l n = elim (decLt c firstVideo) [
+  | yes h ↦ omega (arith, rw (width-3D c h) at n)
+  | no h ↦ rw (width-video c (omega arith) l) at n
+]
 
 -- ---- its text
 

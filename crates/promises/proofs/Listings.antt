@@ -1,10 +1,10 @@
 -- What is promised of a listing that is read back: of the listing reader, and of irangelda_read_listing.
 -- Assumes nothing.
-use mathlib.Core.Path.{_≡_, refl, sym, ap, ap₂, _∙_}
+use mathlib.Core.Path.{_≡_, refl, sym, ap, _∙_}
 use mathlib.Core.Bool.{_&&_}
 use mathlib.Core.Logic.{_↔_, _≢_}
-use mathlib.Core.List.{List, [], _∷_, _++_, append-nil}
-use Prim.Native.Nat.{ℕ, zero, suc, _+_, _*_, _/_, _%_, _≤_, _<_, _^_}
+use mathlib.Core.List.{List, [], _∷_, _++_}
+use Prim.Native.Nat.{ℕ, zero, suc, _+_, _/_, _%_, _≤_, _<_, _^_}
 use native.Mathlib.Omega.{arith}
 use native.Mathlib.Decide.{decLt}
 use lib.Dec.{T}
@@ -18,23 +18,22 @@ use Rattle.meaning.specs.declared.Answer.{Answer}
 use Rattle.meaning.specs.Words.{Byte, Word, wordsOf, bytesOf}
 use Rattle.meaning.specs.Registers.{cells, firstVideo, cell, registerAt}
 use Rattle.meaning.specs.State.{stateWords, valueAt, wellFormed}
-use Rattle.meaning.specs.Answers.{answer, numberOf}
+use Rattle.meaning.specs.Answers.{answer}
 use Rattle.meaning.specs.Lister.{listing}
 use Rattle.meaning.specs.Listings.{Listable, Listed, LongestListing}
-use Rattle.meaning.specs.ListingReader.{listingAnswer, listingLeaves}
+use Rattle.meaning.specs.ListingReader.{listingLeaves}
 use Rattle.meaning.specs.Exported.{bufferFine, wordBufferFine, exportedReadListing, exportedReadListingLeaves}
 use Rattle.meaning.specs.Reasons.{ListerGives, ListingReaderGives}
-use Rattle.meaning.proofs.Bytes.{length-words, length-bytes, words-bytes, bytes-words, number-tells, provided-first, provided-then, settle-done, settle-refused}
+use Rattle.meaning.proofs.Bytes.{length-words, length-bytes, bytes-words, number-tells, provided-first, provided-then, settle-done, settle-refused}
 use Rattle.meaning.proofs.Exported.{provided-range, words-small, words-over}
 use Rattle.meaning.proofs.States.{formed-iff}
-use Rattle.meaning.proofs.Outputs.{list-told}
 use Rattle.listings.proofs.Answers as theory
 use Rattle.listings.proofs.Numbers.{width-3D, width-video}
 use Rattle.irangelda.proofs.Buffers.{over-all, listing-13, whole-listed}
 use Rattle.listing_reader.proofs.read_listing.Reads as read-listing
 use Rattle.irangelda.proofs.irangelda_read_listing.Reads as irangelda-read-listing
 use Rattle.promises.proofs.Promises.{listing-is-exact, each-lister-reason-exactly}
-use Rattle.promises.proofs.Driver.{bad-buffer, list-number-tells-both, list-bad-buffer-exactly, list-call-is-the-lister, passes}
+use Rattle.promises.proofs.Driver.{bad-buffer, list-bad-buffer-exactly, list-call-is-the-lister, passes}
 use Rattle.promises.specs.Contracts.{Listing, ReadingListing, ListingBytes, ReadingListingBytes, ListerBuffers, Tells, BadBuffer}
 
 -- ==== The contracts
@@ -65,6 +64,12 @@ module _ (text st : List ℕ) (a : Answer) (left : List ℕ) (read : ReadingList
         let back = theory.listing-comes-back text (wordsOf st) long x h in
         let done = read .0 ∙ back .0 in
         (done, read .1 ∙ settle-done a _ st (ap (λ (y : Answer). y .reason) done) ∙ rw (back .1))
+
+    -- and as words the buffer is then that state
+    pub restored-as-words : (x : List ℕ) → Listed text x → wordsOf left ≡ x
+    restored-as-words x h =
+        let w = theory.listable-words x (h .state) in
+        ap wordsOf (listing-comes-back x h .1) ∙ words-over x st (w .1) ∙ over-all x (wordsOf st) (w .0 ∙ sym long)
 
     -- D5 "A text is taken exactly if it is a listing"; the place is then its length, and the state that is left is that of the listing
     pub listing-read-exactly : (a ≡ answer 0 (length text)) ↔ ((x : List ℕ) × Listed text x × (left ≡ over (bytesOf x) st))
