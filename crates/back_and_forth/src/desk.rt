@@ -34,7 +34,7 @@ pub(super) const MADE: usize = 9;
 
 pub(super) const ENDED: usize = 10;
 
-// The name of the family at work.
+// The title of what is told: a family, or counts.
 pub(super) const TITLE: usize = 11;
 
 const LENGTH: usize = 767;

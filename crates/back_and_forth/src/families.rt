@@ -7,7 +7,6 @@ use super::desk::KEPT;
 use super::desk::LEFT;
 use super::desk::STATE;
 use super::desk::TEXT;
-use super::desk::at;
 use super::desk::byte_at;
 use super::desk::copy;
 use super::desk::cut;
@@ -17,13 +16,11 @@ use super::desk::len;
 use super::desk::minus;
 use super::desk::narrow;
 use super::desk::plus;
-use super::desk::put;
 use super::desk::put_byte;
 use super::desk::sum;
 use super::making::ALL;
 use super::making::exchange;
 use super::making::leave_out;
-use super::making::list_state;
 use super::making::push_head;
 use super::making::push_lines;
 use super::making::some_listing;
@@ -43,9 +40,7 @@ const COUNTED: u32 = 4;
 
 const PAIRED: u32 = 5;
 
-const WIDE: u32 = 6;
-
-const LENT: u32 = 7;
+const LENT: u32 = 6;
 
 // The state comes back, into the buffer's words and nowhere else; and listed again it is the same text.
 fn there_and_back(desk: &mut Desk) {
@@ -58,45 +53,35 @@ fn there_and_back(desk: &mut Desk) {
     hold_same(desk, KEPT, EXPECTED, stated);
 }
 
-fn every_cut(desk: &mut Desk) {
-    let n = len(desk, TEXT);
-    for i in 0..n {
-        cut(desk, TEXT, i);
-        check(desk);
-    }
+fn check_cut(desk: &mut Desk, n: usize) {
+    cut(desk, TEXT, n);
+    check(desk);
 }
 
-// Another byte, or by chance the same: a bit off, in the other case, past ASCII; a line's end, a digit, a letter, any.
+// Another byte, or by chance the same: a bit off, in the other case, past ASCII; a line's end, 0, a digit, a letter,
+// any.
 fn another(byte: u8, way: u32, thrown: u32) -> u8 {
     match way {
         0 => byte ^ 1,
         1 => byte ^ 0x20,
         2 => byte ^ 0x80,
         3 => b'\n',
-        4 => (thrown % 10) as u8 + 48,
-        5 => (thrown % 6) as u8 + 97,
+        4 => b'0',
+        5 => (thrown % 10) as u8 + 48,
+        6 => (thrown % 6) as u8 + 97,
         _ => (thrown % 256) as u8,
     }
 }
 
-// The text with another byte in that place.
-fn change_byte(desk: &mut Desk, i: usize) {
+// The listing with another byte in that place, or with one more behind its end.
+fn check_changed(desk: &mut Desk, i: usize, way: u32) {
+    copy(desk, KEPT, TEXT);
     let byte = byte_at(desk, TEXT, i);
-    for way in 0..7u32 {
-        put_byte(desk, TEXT, i, another(byte, way, dice(way, narrow(i))));
-        check(desk);
+    put_byte(desk, TEXT, i, another(byte, way, dice(way, narrow(i))));
+    if i >= len(desk, TEXT) {
+        cut(desk, TEXT, plus(i, 1));
     }
-    put_byte(desk, TEXT, i, byte);
-}
-
-// Every byte changed, and one more behind the end.
-fn every_byte(desk: &mut Desk) {
-    let n = len(desk, TEXT);
-    for i in 0..n {
-        change_byte(desk, i);
-    }
-    cut(desk, TEXT, plus(n, 1));
-    change_byte(desk, n);
+    check(desk);
 }
 
 fn check_without(desk: &mut Desk, count: u32, line: usize) {
@@ -111,67 +96,37 @@ fn check_exchanged(desk: &mut Desk, count: u32, line: usize, other: usize) {
     check(desk);
 }
 
-// Every line left out, with the count as it was and as it then should be; doubled, with one count or the other; and
+// A line left out, with the count as it was and as it then should be; doubled, with one count or the other; and
 // exchanged with one of the next eight.
-fn every_line(desk: &mut Desk, cells: u32) {
-    for i in 0..cells {
-        let line = plus(i as usize, 1);
-        check_without(desk, cells, line);
-        check_without(desk, sum(cells, 0xffffffff), line);
-        check_exchanged(desk, sum(cells, i % 2), line, line);
-        check_exchanged(desk, cells, line, plus(line, line % 8 + 1));
-    }
+fn damage_line(desk: &mut Desk, cells: u32, line: usize) {
+    check_without(desk, cells, line);
+    check_without(desk, sum(cells, 0xffffffff), line);
+    check_exchanged(desk, sum(cells, narrow(line) % 2), line, line);
+    check_exchanged(desk, cells, line, plus(line, line % 8 + 1));
 }
 
-fn check_count(desk: &mut Desk, count: u32, digits: u32) {
-    push_head(desk, count, digits);
+// That count, up to two more than there are cells; then the true one with two digits, and with three.
+fn check_count(desk: &mut Desk, cells: u32, count: u32) {
+    if count < 104 {
+        push_head(desk, count, 0);
+    } else {
+        push_head(desk, cells, count - 102);
+    }
     push_lines(desk, 1, ALL);
     check(desk);
 }
 
-// Every count up to two more than there are cells, and the true one with leading zeros.
-fn every_count(desk: &mut Desk, cells: u32) {
-    for count in 0..104u32 {
-        check_count(desk, count, 0);
-    }
-    check_count(desk, cells, 2);
-    check_count(desk, cells, 3);
-}
-
-// The state with a 3D value past 24 bits: the lister writes it, and no listing has its line.
-fn check_wide(desk: &mut Desk, cell: usize, high: u32) {
-    let value = at(desk, STATE, cell);
-    put(desk, STATE, cell, value | high);
-    list_state(desk);
+fn check_two(desk: &mut Desk, count: u32, line: usize, other: usize) {
+    push_head(desk, count, 0);
+    push_lines(desk, line, line);
+    push_lines(desk, other, other);
     check(desk);
-    put(desk, STATE, cell, value);
 }
 
-fn every_wide_value(desk: &mut Desk, seed: u32) {
-    for cell in 0..84usize {
-        if at(desk, STATE, cell + 101) == 1 {
-            check_wide(desk, cell, dice(seed, narrow(cell)) << 24 | 0x1000000);
-        }
-    }
-}
-
-// The line alone under every count, and in front of every line under the count of two.
-fn line_with_all(desk: &mut Desk, line: usize) {
-    for other in 0..102usize {
-        push_head(desk, narrow(other), 0);
-        push_lines(desk, line, line);
-        check(desk);
-        push_head(desk, 2, 0);
-        push_lines(desk, line, line);
-        push_lines(desk, other, other);
-        check(desk);
-    }
-}
-
-fn every_pair(desk: &mut Desk, cells: u32) {
-    for i in 0..cells {
-        line_with_all(desk, plus(i as usize, 1));
-    }
+// The line in front of another, under the count of two; and alone, under another count.
+fn pair_lines(desk: &mut Desk, line: usize, other: usize) {
+    check_two(desk, 2, line, other);
+    check_two(desk, narrow(other), line, ALL);
 }
 
 // No words, one word, some around a state's number, and far more.
@@ -183,25 +138,43 @@ fn lent(k: usize) -> usize {
     }
 }
 
-// Buffers of all these lengths, for the listing and for the text without its last byte.
-fn every_length(desk: &mut Desk) {
-    let n = len(desk, TEXT);
-    for k in 0..128usize {
-        cut(desk, TEXT, minus(n, k % 2));
-        check_lent(desk, lent(k / 2));
+// A buffer of some length, for the listing and for the text without its last byte.
+fn check_length(desk: &mut Desk, k: usize) {
+    let n = len(desk, KEPT);
+    cut(desk, TEXT, minus(n, k % 2));
+    check_lent(desk, lent(k / 2));
+}
+
+// In how many turns a listing is gone through: every length; every byte and one more, in eight ways; every line; every
+// count up to two more than there are cells, and the true one with leading zeros; every line with every other.
+fn turns(desk: &Desk, kind: u32, cells: u32) -> usize {
+    match kind {
+        CUT => len(desk, KEPT),
+        CHANGED => plus(len(desk, KEPT) << 3, 8),
+        LINES => cells as usize,
+        COUNTED => 106,
+        PAIRED => 101 * 102,
+        LENT => 128,
+        _ => 1,
     }
 }
 
-fn run(desk: &mut Desk, kind: u32, cells: u32, seed: u32) {
+fn turn(desk: &mut Desk, kind: u32, cells: u32, i: usize) {
     match kind {
-        CUT => every_cut(desk),
-        CHANGED => every_byte(desk),
-        LINES => every_line(desk, cells),
-        COUNTED => every_count(desk, cells),
-        PAIRED => every_pair(desk, cells),
-        WIDE => every_wide_value(desk, seed),
-        LENT => every_length(desk),
+        CUT => check_cut(desk, i),
+        CHANGED => check_changed(desk, i / 8, narrow(i) % 8),
+        LINES => damage_line(desk, cells, plus(i, 1)),
+        COUNTED => check_count(desk, cells, narrow(i)),
+        PAIRED => pair_lines(desk, i / 102 + 1, i % 102),
+        LENT => check_length(desk, i),
         _ => there_and_back(desk),
+    }
+}
+
+fn go_through(desk: &mut Desk, kind: u32, cells: u32) {
+    let n = turns(desk, kind, cells);
+    for i in 0..n {
+        turn(desk, kind, cells, i);
     }
 }
 
@@ -217,8 +190,7 @@ fn size(kind: u32, k: u32) -> u32 {
 pub(super) fn made_up(desk: &mut Desk, kind: u32, listings: u32) {
     for k in 0..listings {
         let cells = size(kind, k);
-        let seed = dice(kind << 20, k);
-        some_listing(desk, cells as usize, seed);
-        run(desk, kind, cells, seed);
+        some_listing(desk, cells as usize, dice(kind << 20, k));
+        go_through(desk, kind, cells);
     }
 }

@@ -51,16 +51,12 @@ pub(super) fn some_old_words(desk: &mut Desk, seed: u32) {
     }
 }
 
-pub(super) fn list_state(desk: &mut Desk) {
-    calls::list(desk, STATE, KEPT);
-    copy(desk, KEPT, TEXT);
-}
-
 // A made-up state of so many cells, and its listing: at KEPT, and as the text.
 pub(super) fn some_listing(desk: &mut Desk, cells: usize, seed: u32) {
     some_state(desk, cells, dice(seed, 1));
     some_old_words(desk, dice(seed, 2));
-    list_state(desk);
+    calls::list(desk, STATE, KEPT);
+    copy(desk, KEPT, TEXT);
 }
 
 // Adds the lines of the listing from the first to the last of them; its head is line 0.

@@ -15,17 +15,17 @@ loop-holds c = search needs
 size-requires : tie.Need-size-requires Inv-loop μ-loop
 size-requires c κs = search needs
 
-dice-requires : tie.Need-dice-requires Inv-loop μ-loop
-dice-requires c κs = search needs
-
 cast-some-listing : tie.Need-cast-some-listing Inv-loop μ-loop
 cast-some-listing c = search needs
+
+dice-requires : tie.Need-dice-requires Inv-loop μ-loop
+dice-requires c κs = search needs
 
 some-listing-requires : tie.Need-some-listing-requires Inv-loop μ-loop
 some-listing-requires c κs = search needs
 
-run-requires : tie.Need-run-requires Inv-loop μ-loop
-run-requires c κs = search needs
+go-through-requires : tie.Need-go-through-requires Inv-loop μ-loop
+go-through-requires c κs = search needs
 
 add-k : tie.Need-add-k Inv-loop μ-loop
 add-k c = search needs
@@ -47,10 +47,10 @@ made-up-spec =
     μ-loop
     loop-holds
     size-requires
-    dice-requires
     cast-some-listing
+    dice-requires
     some-listing-requires
-    run-requires
+    go-through-requires
     add-k
     loop-less
     loop-again
