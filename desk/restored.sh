@@ -1,7 +1,7 @@
 # Sourced by ./irangelda: the answer of restore_listing, taken apart. Its numbers have eight bytes and its words four, the lowest first.
 
 # The listing reader's number stands alone if it is a refusal; else the writer's follows it, and then as many words as that one tells.
-# What is to be said of them is then in `text`, and the exit status in `status`. Status 0, unless the bytes are no such answer.
+# What is to be said of them is then in `text`, and the exit status in `status`. Returns 0, unless the bytes are no such answer.
 take_apart() {
     set -- $(numbers) 0 0
     if refuses "$1"; then

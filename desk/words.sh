@@ -17,8 +17,8 @@ Both know one grant only, that of case K1: role 1, start 00100000h, length and
 reach 00080000h. A batch or a text that is refused gets one line, reason=R
 place=P: docs/DRIVER.md has the reasons, and places are counted from 0, in words
 of the batch or bytes of the text. Of a listing back says listing=whole words=N
-and gives the words in the next line; or listing=whole reason=12 place=C, if no
-batch makes its state under that grant: C is the cell in the way, see
+and the words, if any, in the next line; or listing=whole reason=12 place=C, if
+no batch makes its state under that grant: C is the cell in the way, see
 docs/REGISTERS.md. Whole tells nothing of masks, value rules or grants.
 
 Exit status: 0 done, 1 refused, 2 wrong use, 3 a failure: it could not be built

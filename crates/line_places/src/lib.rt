@@ -95,6 +95,7 @@ fn agree(text: &[u8], at: usize, expected: &[u8]) -> usize
     i
 }
 
+// A hex digit, in lower case.
 fn is_hex(x: u8) -> bool
     ensures hex { λ r. ⌜ r ≡ isHex x ⌝ }
 {
@@ -160,6 +161,7 @@ fn along_cell(text: &[u8], at: usize, c: usize) -> usize
     along_line(text, at, &before, 8)
 }
 
+// The longer of two ways.
 fn larger(a: usize, b: usize) -> usize
     ensures larger { λ r. ⌜ r ≡ max a b ⌝ }
 {

@@ -74,6 +74,7 @@ fn cell_by(n: usize, kind: u32, name: u32) -> usize
     }
 }
 
+// The same; the digit is the first byte of the second half.
 fn cell_3d(digits: &[u8; 256], kind: u32, name: u32) -> usize
     requires table { ⌜ now digits ≡ digitTable ⌝ }
     ensures cell { λ r. ⌜ r ≡ cell3DOf kind name ⌝ }

@@ -179,8 +179,8 @@ fn key_bytes(text: &[u8]) -> usize
     i
 }
 
-// Reads a listing back: 1 if the buffer of the state is not as long as a state, 19 at the first byte that begins no listing; else 0 and the
-// text's length. What the buffer held does not matter, and a refusal leaves it; bytes past its last whole word stay.
+// Reads a listing back: 1 if the buffer of the state is not as long as a state, 19 at the first byte that begins no listing, or at
+// the text's length if it is cut short; else 0 and the text's length. What the buffer held does not matter, and a refusal leaves it; bytes past its last whole word stay.
 pub fn read_listing(text: &[u8], state: &mut [u8]) -> Answer
     ensures answer { λ r. ⌜ r ≡ listingAnswer (now (text .entry)) (wordsOf (now (state .entry))) ⌝ }
     ensures bytes { λ r. ⌜ now (state .exit) ≡ settle r (over (bytesOf (listingLeaves (now (text .entry)) (wordsOf (now (state .entry))))) (now (state .entry))) (now (state .entry)) ⌝ }

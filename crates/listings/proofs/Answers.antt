@@ -44,7 +44,7 @@ listed-read text st h =
     (ap₂ answer (f .0) (t .right (f .0) .1), rw (f .1) (rebuilt st (formed-iff st .0 (h .state .formed))))
 
 module _ (text old : List ℕ) where
-  -- "A state buffer of the wrong length gives 1 at 0 first", and stays
+  -- A8 "the listing reader gives 1 if the buffer is not 202 words", and the buffer stays
   pub wrong-length : length old ≢ stateWords → (listingAnswer text old ≡ answer badState 0) × (listingLeaves text old ≡ old)
   unfolding listingAnswer listingLeaves
   wrong-length n = rw (ne-eqb (length old) stateWords n) (refl, refl)
@@ -58,7 +58,7 @@ module _ (text old : List ℕ) where
     unfolding listingLeaves
     leaves z = rw (answers, z)
 
-    -- "Every well-formed state whose 3D values fit 24 bits must come back the same"
+    -- D5 "Every well-formed state whose 3D values are below 2^24 comes back from its listing as it was."
     pub listing-comes-back : (st : List ℕ) → Listed text st → (listingAnswer text old ≡ answer success (length text)) × (listingLeaves text old ≡ st)
     listing-comes-back st h =
         let r = listed-read text st h in
@@ -73,7 +73,7 @@ module _ (text old : List ℕ) where
       λ h. ap (λ a. a .reason) (listing-comes-back (listingLeaves text old) h .0),
     )
 
-    -- otherwise 19, at "the byte offset of the first byte that begins no listing"; the buffer stays
+    -- otherwise 19, Y19 "the length of the longest beginning of the text that some listing begins with"; the buffer stays
     pub listing-place-is-longest-beginning : listingAnswer text old .reason ≢ 0
         → (listingAnswer text old .reason ≡ notListing) × LongestListing text (listingAnswer text old .place) × (listingLeaves text old ≡ old)
     unfolding listingLeaves
@@ -92,7 +92,7 @@ module _ (text old : List ℕ) where
 
 -- ---- one answer
 
--- no two states have one listing
+-- no two states that fit their registers have one listing
 pub listing-tells-state : (text st other : List ℕ) → Listed text st → Listed text other → st ≡ other
 listing-tells-state text st other h k = sym (listed-read text st h .1) ∙ listed-read text other k .1
 

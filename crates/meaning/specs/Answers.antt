@@ -56,7 +56,7 @@ noRoom = 11
 abbrev pub notWritable : ℕ
 notWritable = 12
 
--- Y13 "C calls and program alone: a buffer has more than 65,536 bytes, or a buffer of words has a length that is no multiple of 4"
+-- Y13 "C calls and programs alone: a buffer has more than 65,536 bytes, or a buffer of words has a length that is no multiple of 4"
 abbrev pub badBuffer : ℕ
 badBuffer = 13
 

@@ -104,7 +104,8 @@ further n r = record { answer = answer (r .answer .reason) (n + r .answer .place
 abbrev pub with : Write → Outcome → Outcome
 with w r = record { answer = r .answer; writes = w ∷ r .writes }
 
--- a refusal where the text goes n bytes along another line than those that are left: the longer way counts
+-- where the text goes n bytes along another line than those that are left, a refusal has the longer way for its place; of a success the place
+-- is the longer one already
 abbrev pub atLeast : ℕ → Outcome → Outcome
 atLeast n r = record { answer = answer (r .answer .reason) (max n (r .answer .place)); writes = r .writes }
 
@@ -146,7 +147,7 @@ readText xs =
 
 -- ---- the call
 
--- A8 "The listing reader gives 1 if the buffer is not 202 words, and that before 19; what the words are does not matter."
+-- A8 "the listing reader gives 1 if the buffer is not 202 words, and that before 19; what the words are does not matter."
 unfoldable pub listingAnswer : List ℕ → List ℕ → Answer
 listingAnswer text st = provided (eqb (length st) stateWords) badState (readText text .answer)
 

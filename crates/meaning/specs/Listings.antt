@@ -14,7 +14,7 @@ pub record Listable (st : List ℕ) : Type 0 where
   pub formed : T (wellFormed st)
   pub narrow : (c : ℕ) → c < cells → valueAt st (cell c) < 2 ^ registerAt (cell c) .width
 
--- L9 "A text is a listing if it is that of" such a state
+-- L9 "a text is a listing if it is that of" such a state
 pub record Listed (text st : List ℕ) : Type 0 where
   pub state : Listable st
   pub same : listing st ≡ text

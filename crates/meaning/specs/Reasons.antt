@@ -121,7 +121,7 @@ pub data ListerGives (st : List ℕ) (room : ℕ) : ℕ → ℕ → Type 0 where
 
 -- A8, Y19 and Y0 of the listing reader, for the text and what the buffer of the state held
 pub data ListingReaderGives (text old : List ℕ) : ℕ → ℕ → Type 0 where
-  -- A8 "The listing reader gives 1 if the buffer is not 202 words, and that before 19"
+  -- A8 "the listing reader gives 1 if the buffer is not 202 words, and that before 19"
   bad-state : length old ≢ stateWords → ListingReaderGives text old 1 0
   -- Y19 "listing reader: the text is no listing | the length of the longest beginning of the text that some listing begins with"
   not-listing : {p : ℕ} → length old ≡ stateWords → ((st : List ℕ) → ¬ Listed text st) → LongestListing text p

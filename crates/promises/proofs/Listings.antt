@@ -71,7 +71,7 @@ module _ (text st : List ℕ) (a : Answer) (left : List ℕ) (read : ReadingList
         let w = theory.listable-words x (h .state) in
         ap wordsOf (listing-comes-back x h .1) ∙ words-over x st (w .1) ∙ over-all x (wordsOf st) (w .0 ∙ sym long)
 
-    -- D5 "A text is taken exactly if it is a listing"; the place is then its length, and the state that is left is that of the listing
+    -- D5 "With a buffer of 202 words, a text is taken exactly if it is a listing"; the place is then its length, and the state that is left is that of the listing
     pub listing-read-exactly : (a ≡ answer 0 (length text)) ↔ ((x : List ℕ) × Listed text x × (left ≡ over (bytesOf x) st))
     listing-read-exactly = (
       λ e.
@@ -86,7 +86,7 @@ module _ (text st : List ℕ) (a : Answer) (left : List ℕ) (read : ReadingList
         let p = theory.listing-place-is-longest-beginning text (wordsOf st) long (rw (read .0) at n) in
         rw (read .0) (p .0, p .1)
 
--- no two states have one listing
+-- no two states that fit their registers have one listing
 pub listing-tells-state : (text x y : List ℕ) → Listed text x → Listed text y → x ≡ y
 listing-tells-state = theory.listing-tells-state
 
