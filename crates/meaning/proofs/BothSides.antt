@@ -8,7 +8,7 @@ use mathlib.Core.List.{[], _∷_}
 use Prim.Native.Nat.{ℕ, _+_, _<_}
 use native.Mathlib.Omega.{arith}
 use lib.Dec.{T, ltb, eqb}
-use lib.ListN.{length, take, getD, set}
+use lib.ListN.{length, take, getD, set, replicate}
 use mir.Facts.{and-yes, eqb-yes, ltb-yes, yes-ltb}
 use Rattle.laws.specs.Lists.{All, every, some, from}
 use Rattle.laws.specs.Tests.{oneOf}
@@ -18,13 +18,14 @@ use Rattle.meaning.specs.Words.{bytesOf, count, offset, paraAdr, paraOS,
 use Rattle.meaning.specs.Registers.{cells, formats, bytesAmong, bytesPerPixel, formatTable, alphaConstants, location, formatByte, levels, filters, mapping, alphaSelect, memoryLocation, targetGroup, stage, sample, sections, overlay, scaler, find, findAmong, find3D, findOffset, findVideo, registerAmong, registerIn, registerAt}
 use Rattle.meaning.specs.Grants.{grantFine, grantsFine, covers, granted}
 use Rattle.meaning.specs.Batch.{allowedTypes, typeAllowed, allowed}
-use Rattle.meaning.specs.State.{cellFormed, wellFormed, empty, apply, applyAll}
+use Rattle.meaning.specs.State.{stateWords, cellFormed, wellFormed, empty, apply, applyAll}
 use Rattle.meaning.specs.Positions.{kindOf, after, nextKind, nextLeft, goes, carries, writeAt, writesFrom, writesOf}
 use Rattle.meaning.specs.Reader.{unless, runIn, headerReason, valueReason, wordReason, judge, run, batchAnswer, readAnswer, readLeaves}
 use Rattle.meaning.specs.Answers.{answer}
 use Rattle.meaning.specs.Writer.{parameters, packetsVideo, packetsAmong, wordsFor, written, mostWritten, writable, lowestBad, writeAnswer}
 use Rattle.meaning.specs.Text.{ascii}
 use Rattle.meaning.specs.Lister.{digit, hex, decimal, linesOf, linesAmong, cellLines, listing}
+use Rattle.meaning.specs.ListingReader.{isHex, along, digitWorth, worth, tableLines, readLines, readCount, readFirst, readText, listingAnswer, listingLeaves}
 use Rattle.meaning.specs.Cases.{holding, cases, slips, Holds, keeping, breaking, full, formatBytes}
 
 -- X8 "K1 to K12 are one table, and one statement about the definitions is proved of all of it."
@@ -67,6 +68,11 @@ listing-example = refl
 pub video-line-example : listing (holding 90 0x0009ABC0) ≡ ascii "cells=1\nreg=23f0 val=0009abc0\n"
 unfolding holding empty digit hex decimal linesOf linesAmong cellLines listing targetGroup stage sample sections overlay scaler from
 video-line-example = refl
+
+-- A8 "what the words are does not matter": K1's listing, read back into a buffer of ones, leaves nothing of them
+pub restored-example : listingLeaves (ascii "cells=1\nreg=01.00.50 val=00001000\n") (replicate stateWords 1) ≡ holding 1 0x001000
+unfolding holding empty apply applyAll digit hex isHex along digitWorth worth tableLines readLines readCount readFirst readText listingAnswer listingLeaves targetGroup stage sample sections overlay scaler from
+restored-example = refl
 
 -- W4 "No state needs more than 184 words.", L6 "No listing has more than 2,568 bytes.": a state with every cell marked needs as many
 pub full-is-the-most : (length (written full) ≡ 184) × (length (listing full) ≡ 2568) × (take 10 (listing full) ≡ ascii "cells=101\n")
