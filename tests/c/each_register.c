@@ -87,12 +87,20 @@ static int format_permitted(uint32_t byte)
     return 0;
 }
 
+/* If one of two filters is linear anisotropy, code 2, both must be. */
+static int pair_permitted(uint32_t s, uint32_t t)
+{
+    if (s == 2 || t == 2)
+        return s == 2 && t == 2;
+    return 1;
+}
+
 static int filters_permitted(uint32_t v)
 {
     uint32_t depth = bits(v, 3, 0);
-    int s_two = bits(v, 15, 13) == 2, t_two = bits(v, 9, 7) == 2;
     return bits(v, 20, 16) <= 16 && bits(v, 15, 13) <= 3 && bits(v, 12, 10) <= 3 && bits(v, 9, 7) <= 3 && bits(v, 6, 4) <= 3
-        && (depth == 0 || depth == 1 || depth == 2 || depth == 4) && s_two == t_two;
+        && (depth == 0 || depth == 1 || depth == 2 || depth == 4) && pair_permitted(bits(v, 15, 13), bits(v, 9, 7))
+        && pair_permitted(bits(v, 12, 10), bits(v, 6, 4));
 }
 
 static int code_permitted(uint32_t code)

@@ -97,15 +97,19 @@ static uint32_t levels(uint32_t choice)
     return (choice % 1024) << 12 | highest << 6 | lowest;
 }
 
-/* Linear anisotropy, code 2, stands in both of the enlarging filters or in neither. */
+/* The filters in S and T, at these bits: linear anisotropy, code 2, stands in both of them or in neither. */
+static uint32_t filter_pair(uint32_t *choice, int s_at, int t_at)
+{
+    uint32_t both_two = PICK(choice, 0, 1);
+    uint32_t s = both_two ? 2 : PICK(choice, 0, 1, 3), t = both_two ? 2 : PICK(choice, 0, 1, 3);
+    return s << s_at | t << t_at;
+}
+
 static uint32_t filters(uint32_t choice)
 {
-    uint32_t ratio = PICK(&choice, 0, 1, 15, 16), both_two = choice & 1, depth;
-    choice >>= 1;
-    uint32_t s = both_two ? 2 : PICK(&choice, 0, 1, 3), t = both_two ? 2 : PICK(&choice, 0, 1, 3);
-    uint32_t shrink_s = PICK(&choice, 0, 1, 2, 3), shrink_t = PICK(&choice, 0, 1, 2, 3);
-    depth = PICK(&choice, 0, 1, 2, 4);
-    return ratio << 16 | s << 13 | shrink_s << 10 | t << 7 | shrink_t << 4 | depth;
+    uint32_t ratio = PICK(&choice, 0, 1, 15, 16);
+    uint32_t enlarging = filter_pair(&choice, 13, 7), shrinking = filter_pair(&choice, 10, 4), depth = PICK(&choice, 0, 1, 2, 4);
+    return ratio << 16 | enlarging | shrinking | depth;
 }
 
 static uint32_t mapping(uint32_t choice)

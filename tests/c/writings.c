@@ -254,6 +254,23 @@ static void bad_cell(const struct party *party, size_t cell, uint32_t value)
     lists_exactly(party, "a state that cannot be written", state, text);
 }
 
+/* The shrinking filters, every code of 12:10 beside every code of 6:4: if one is 2, both must be. The batch, or 12. */
+static void shrinking_filters(const struct party *party)
+{
+    for (uint32_t s = 0; s <= 3; s++)
+        for (uint32_t t = 0; t <= 3; t++) {
+            uint32_t value = s << 10 | t << 4;
+            uint8_t state[STATE_BYTES] = { 0 };
+            if ((s == 2 || t == 2) && s != t) {
+                bad_cell(party, 46, value);
+                continue;
+            }
+            set_cell(state, 46, value);
+            writes_exactly(party, "shrinking filters", state, (const uint32_t[]){ 0x0002043c, 0x23020000, 0x31000000 | value }, 3);
+            leads_back(party, "shrinking filters", state);
+        }
+}
+
 static void bad_cells(const struct party *party)
 {
     for (size_t cell = 0; cell < 91; cell++) {
@@ -300,6 +317,7 @@ void writings(void)
         full_state(&parties[p]);
         one_in_one_out(&parties[p]);
         bad_cells(&parties[p]);
+        shrinking_filters(&parties[p]);
         ungranted_cells(&parties[p]);
     }
 }

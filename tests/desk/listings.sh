@@ -70,6 +70,7 @@ unwritable 'a scaler address' 'cells=1\nreg=23ec val=00000010\n' 89
 unwritable 'a target that is not granted' 'cells=1\nreg=01.00.50 val=00001001\n' 1
 unwritable 'a bit that must be clear' 'cells=1\nreg=01.00.3f val=00000800\n' 0
 unwritable 'a format byte' 'cells=1\nreg=01.00.52 val=00940000\n' 3
+unwritable 'a shrinking filter alone' 'cells=1\nreg=02.23.31 val=00000800\n' 46
 unwritable 'two bad cells' 'cells=3\nreg=01.00.50 val=00001000\nreg=02.23.31 val=00004080\nreg=23ec val=00000010\n' 46
 
 # ---- K1's listing, cut and changed

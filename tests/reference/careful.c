@@ -216,7 +216,8 @@ static inline int obeys_rule_31(uint32_t word)
     return bits(word, 20, 16) <= 16
         && bits(word, 15, 13) <= 3 && bits(word, 12, 10) <= 3 && bits(word, 9, 7) <= 3 && bits(word, 6, 4) <= 3
         && is_depth_code(bits(word, 3, 0))
-        && (bits(word, 15, 13) == 2) == (bits(word, 9, 7) == 2);
+        && (bits(word, 15, 13) == 2) == (bits(word, 9, 7) == 2)
+        && (bits(word, 12, 10) == 2) == (bits(word, 6, 4) == 2);
 }
 
 static inline int is_mapping_code(uint32_t code)

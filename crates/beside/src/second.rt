@@ -102,14 +102,16 @@ fn format_is_permitted(byte: u32) -> bool {
     }
 }
 
-// Bits 15:13, 12:10, 9:7 and 6:4 are at most 3 where none has its top bit; 2 in the first and the
-// third alone is refused.
+// Bits 15:13, 12:10, 9:7 and 6:4 are at most 3 where none has its top bit. A 2 in the first goes with
+// one in the third, and a 2 in the second with one in the fourth; alone it is refused.
 fn modes_are_permitted(v: u32) -> bool {
     if v >> 16 & 31 > 16 || v & 0x9240 != 0 {
         return false;
     }
     match v & 15 {
-        0 | 1 | 2 | 4 => (v >> 13 & 3 == 2) == (v >> 7 & 3 == 2),
+        0 | 1 | 2 | 4 => {
+            (v >> 13 & 3 == 2) == (v >> 7 & 3 == 2) && (v >> 10 & 3 == 2) == (v >> 4 & 3 == 2)
+        }
         _ => false,
     }
 }

@@ -1,5 +1,5 @@
--- The cases and examples of docs/RULES.md, and what likely slips would change, each computed: K1 to K12, the slips, the writer's and the
--- lister's words and bytes, the format bytes.
+-- The cases and examples of docs/RULES.md, and what likely slips would change, each computed: K1 to K12, the slips, K24 to K29, the writer's
+-- and the lister's words and bytes, the format bytes.
 -- Assumes nothing.
 use mathlib.Core.Path.{_≡_, refl}
 use mathlib.Core.Logic.{_↔_}
@@ -22,11 +22,11 @@ use Rattle.meaning.specs.State.{stateWords, cellFormed, wellFormed, empt
 use Rattle.meaning.specs.Positions.{kindOf, after, nextKind, nextLeft, goes, carries, writeAt, writesFrom, writesOf}
 use Rattle.meaning.specs.Reader.{unless, runIn, headerReason, valueReason, wordReason, judge, run, batchAnswer, readAnswer, readLeaves}
 use Rattle.meaning.specs.Answers.{answer}
-use Rattle.meaning.specs.Writer.{parameters, packetsVideo, packetsAmong, wordsFor, written, mostWritten, writable, lowestBad, writeAnswer}
+use Rattle.meaning.specs.Writer.{parameters, packetsVideo, packetsAmong, wordsFor, written, mostWritten, countRows, packetNeed, needAmong, needFor, writable, lowestBad, writeAnswer}
 use Rattle.meaning.specs.Text.{ascii}
 use Rattle.meaning.specs.Lister.{digit, hex, decimal, linesOf, linesAmong, cellLines, listing}
 use Rattle.meaning.specs.ListingReader.{isHex, along, digitWorth, worth, tableLines, readLines, readCount, readFirst, readText, listingAnswer, listingLeaves}
-use Rattle.meaning.specs.Cases.{holding, cases, slips, Holds, keeping, breaking, full, formatBytes}
+use Rattle.meaning.specs.Cases.{holding, cases, slips, Holds, filtersRefused, filtersAccepted, BothRefuse, BothTake, keeping, breaking, full, formatBytes}
 
 -- X8 "K1 to K12 are one table, and one statement about the definitions is proved of all of it."
 pub cases-hold : All Holds cases
@@ -39,6 +39,14 @@ cases-hold = (
 pub slips-hold : All Holds slips
 unfolding slips holding count offset paraAdr paraOS paraType paraSubType subAddress data24 formats bytesAmong bytesPerPixel alphaConstants location formatByte levels filters mapping alphaSelect memoryLocation targetGroup stage sample sections overlay scaler find findAmong find3D findVideo findOffset registerAmong registerIn registerAt grantFine grantsFine covers granted allowedTypes typeAllowed allowed cellFormed wellFormed empty apply applyAll kindOf after nextKind nextLeft goes carries writeAt writesFrom writesOf unless runIn headerReason valueReason wordReason judge run batchAnswer readAnswer readLeaves every some from oneOf
 slips-hold = ((refl, refl), ((refl, refl), ((refl, refl), ((refl, refl), ((refl, refl), ((refl, refl), ((refl, refl), tt)))))))
+
+-- R7 "bits 12:10 and bits 6:4 are both 2 or neither is", from both sides, for the reader and for the writer: K24 to K29
+pub filters-hold : All BothRefuse filtersRefused × All BothTake filtersAccepted
+unfolding filtersRefused filtersAccepted holding count offset paraAdr paraOS paraType paraSubType subAddress data24 filters targetGroup stage sample sections overlay scaler find findAmong find3D findVideo findOffset registerAmong registerIn registerAt grantsFine allowedTypes typeAllowed allowed cellFormed wellFormed empty apply applyAll kindOf after nextKind nextLeft goes carries writeAt writesFrom writesOf unless runIn headerReason valueReason wordReason judge run batchAnswer readAnswer readLeaves every some from oneOf parameters packetsVideo packetsAmong wordsFor written countRows packetNeed needAmong needFor writable lowestBad writeAnswer
+filters-hold = (
+  (((refl, refl), refl), (((refl, refl), refl), (((refl, refl), refl), (((refl, refl), refl), (((refl, refl), refl), (((refl, refl), refl), (((refl, refl), refl), (((refl, refl), refl), tt)))))))),
+  (((refl, refl), refl, refl), (((refl, refl), refl, refl), (((refl, refl), refl, refl), (((refl, refl), refl, refl), (((refl, refl), refl, refl), (((refl, refl), refl, refl), (((refl, refl), refl, refl), tt))))))),
+)
 
 -- state and grants both bad: 1 comes before 2
 pub order-example : readAnswer [] (1 ∷ []) [] ≡ answer 1 0

@@ -1,4 +1,4 @@
--- Cases K1 to K12 as one table; batches for likely slips; grant lists; the 39 permitted format bytes.
+-- Cases K1 to K12 as one table; batches for likely slips; K24 to K29, for reader and writer; grant lists; the 39 permitted format bytes.
 -- Assumes nothing.
 use mathlib.Core.List.{List, [], _∷_, _++_, map}
 use Prim.Native.Nat.{ℕ, _+_, _*_}
@@ -6,10 +6,12 @@ use mathlib.Core.Path.{_≡_}
 use lib.ListN.{set, replicate}
 use Rattle.laws.specs.Lists.{join}
 use Rattle.meaning.specs.declared.Answer.{Answer}
+use Rattle.meaning.specs.Words.{data24}
 use Rattle.meaning.specs.Registers.{cells, Format, formats}
 use Rattle.meaning.specs.State.{empty}
 use Rattle.meaning.specs.Answers.{answer}
 use Rattle.meaning.specs.Reader.{readAnswer, readLeaves}
+use Rattle.meaning.specs.Writer.{written, mostWritten, writeAnswer}
 
 -- a batch and its grants, as words, and what the reader answers and leaves of the empty state
 pub record Case : Type 0 where
@@ -38,7 +40,7 @@ grant reach = 1 ∷ 0x00100000 ∷ 0x00080000 ∷ reach ∷ []
 abbrev pub type01 : ℕ
 type01 = 0x00010000
 
--- sample 3: the setting of K9 to K11
+-- sample 3: the setting of K9 to K11, and of K24 to K29
 abbrev pub sample3 : ℕ
 sample3 = 0x23020000
 
@@ -97,6 +99,52 @@ slips =
 -- what a case says of the definitions
 abbrev pub Holds : Case → Type 0
 Holds c = (readAnswer (c .batch) (c .grants) empty ≡ c .gives) × (readLeaves (c .batch) (c .grants) empty ≡ c .leaves)
+
+-- the shrinking filters, K24 to K29: words of a sample's filters that are refused,
+unfoldable pub filtersRefused : List ℕ
+filtersRefused =
+    -- K24 "31000800, 31000810, 31000830 | 8 at 2 | 12 at 46"
+    0x31000800
+    ∷ 0x31000810
+    ∷ 0x31000830
+    -- K25 "31000020, 31000420, 31000C20 | 8 at 2 | 12 at 46"
+    ∷ 0x31000020
+    ∷ 0x31000420
+    ∷ 0x31000C20
+    -- K28 "31004900, 31004120 | 8 at 2 | 12 at 46"
+    ∷ 0x31004900
+    ∷ 0x31004120
+    ∷ []
+
+-- and words that are accepted
+unfoldable pub filtersAccepted : List ℕ
+filtersAccepted =
+    -- K26 "31000820 | accepted, cell 46 | makes the batch"
+    0x31000820
+    -- K27 "31000000, 31000400, 31000C00, 31000010, 31000030 | accepted, cell 46 | makes the batch"
+    ∷ 0x31000000
+    ∷ 0x31000400
+    ∷ 0x31000C00
+    ∷ 0x31000010
+    ∷ 0x31000030
+    -- K29 "31004920 | accepted, cell 46 | makes the batch"
+    ∷ 0x31004920
+    ∷ []
+
+-- what the writer is given: cell 46 alone is marked, and holds the word's data
+abbrev pub holdingFilters : ℕ → List ℕ
+holdingFilters w = holding 46 (data24 w)
+
+-- the reader refuses the word, and the writer that state
+abbrev pub BothRefuse : ℕ → Type 0
+BothRefuse w = Holds (refused [] sample3 w 8) × (writeAnswer (holdingFilters w) [] mostWritten ≡ answer 12 46)
+
+-- the reader accepts the word and leaves that state, and of that state the writer makes the same batch
+abbrev pub BothTake : ℕ → Type 0
+BothTake w =
+    Holds (accepted [] sample3 w 46 (data24 w))
+    × (writeAnswer (holdingFilters w) [] mostWritten ≡ answer 0 3)
+    × (written (holdingFilters w) ≡ 0x0002043C ∷ sample3 ∷ w ∷ [])
 
 -- both sides of each rule of the grant list, G2 to G4: lists that keep the rules
 unfoldable pub keeping : List (List ℕ)

@@ -135,12 +135,12 @@ formatByte v = ltb 0 (bytesPerPixel (bits 23 16 v))
 unfoldable pub levels : ℕ → Bool
 levels v = leb (bits 11 6 v) 11 && leb (bits 5 0 v) 11
 
--- R7 "bits 15:13 and bits 9:7 are both 2 or neither is": if one is 2, both are
+-- R7 "both 2 or neither is": if one is 2, both are
 abbrev pub bothTwo : ℕ → ℕ → Bool
 bothTwo x y = implies (eqb x 2 || eqb y 2) (eqb x 2 && eqb y 2)
 
 -- R7 "bits 20:16 are at most 16; bits 15:13, 12:10, 9:7 and 6:4 are each at most 3; bits 3:0 are 0, 1, 2 or 4; bits 15:13 and bits 9:7 are
--- both 2 or neither is"
+-- both 2 or neither is; bits 12:10 and bits 6:4 are both 2 or neither is"
 unfoldable pub filters : ℕ → Bool
 filters v =
     leb (bits 20 16 v) 16
@@ -149,7 +149,8 @@ filters v =
     && (leb (bits 9 7 v) 3
     && (leb (bits 6 4 v) 3
     && (oneOf (bits 3 0 v) (0 ∷ 1 ∷ 2 ∷ 4 ∷ [])
-    && bothTwo (bits 15 13 v) (bits 9 7 v))))))
+    && (bothTwo (bits 15 13 v) (bits 9 7 v)
+    && bothTwo (bits 12 10 v) (bits 6 4 v)))))))
 
 -- R8 "0, 1, 2, 3 or 7"
 abbrev pub mappingCode : ℕ → Bool

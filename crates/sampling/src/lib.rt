@@ -1,6 +1,8 @@
 // The column "Values" for the registers of a sample: one test for each rule, under the names that the definitions have.
 ghost use mathlib.Core.Path.{_≡_};
 ghost use mathlib.Core.List.{[], _∷_};
+ghost use mathlib.Core.Bool.{_&&_};
+ghost use Prim.Native.Nat.{_/_, _%_};
 ghost use lib.Dec.{leb};
 ghost use Rattle.laws.specs.Tests.{oneOf};
 ghost use Rattle.meaning.specs.Registers as rules;
@@ -48,18 +50,29 @@ fn depth_code(code: u32) -> bool
     }
 }
 
-// 2 is linear anisotropy, which needs both directions.
-fn both_two(s: u32, t: u32) -> bool
-    ensures permitted { λ r. ⌜ r ≡ rules.bothTwo s t ⌝ }
+// Which filters are linear anisotropy, a bit for each: none of them, both that enlarge, both that shrink, or all four.
+fn tied_set(twos: u32) -> bool
+    ensures permitted { λ r. ⌜ r ≡ oneOf twos (0 ∷ 0x2080 ∷ 0x410 ∷ 0x2490 ∷ []) ⌝ }
 {
-    match s {
-        2 => t == 2,
-        _ => t != 2,
+    match twos {
+        0 => true,
+        0x2080 => true,
+        0x410 => true,
+        0x2490 => true,
+        _ => false,
     }
 }
 
-// The ratio of anisotropy, then the filters: enlarging and shrinking in S, enlarging and shrinking in T, shrinking in D. Only the
-// enlarging ones are tied to each other.
+// 2 is linear anisotropy, which needs both directions, S and T: for enlarging and for shrinking, both codes are 2 or neither is. Of codes
+// that are at most 3 the low two bits tell all. A code is 2 if its upper bit is set and its lower one is not; all four are asked at once.
+fn tied(value: u32) -> bool
+    ensures permitted { λ r. ⌜ r ≡ (rules.bothTwo (value / 0x2000 % 4) (value / 0x80 % 4) && rules.bothTwo (value / 0x400 % 4) (value / 0x10 % 4)) ⌝ }
+{
+    tied_set(((value / 2 | value) ^ value) & 0x2490)
+}
+
+// The ratio of anisotropy, then the filters: enlarging and shrinking in S, enlarging and shrinking in T, shrinking in D. Those in S are
+// tied to those in T.
 pub fn filters(value: u32) -> bool
     ensures rule { λ r. ⌜ r ≡ rules.filters value ⌝ }
 {
@@ -81,8 +94,7 @@ pub fn filters(value: u32) -> bool
     if !depth_code(value % 0x10) {
         return false;
     }
-    // Of fields that are at most 3 the low two bits tell all, so that the four tests above become one mask.
-    both_two(value / 0x2000 % 4, value / 0x80 % 4)
+    tied(value)
 }
 
 // Nearest, linear: volume textures know no other filter.

@@ -1,12 +1,14 @@
 -- `sampling::filters` meets its contract: the tests are those of the definition, in its order.
 -- Assumes nothing.
-use mathlib.Core.Path.{_≡_}
+use mathlib.Core.Path.{_≡_, ap₂, _∙_}
+use mathlib.Core.Bool.{_&&_}
 use Prim.Native.Nat.{ℕ, _/_}
 use native.Mathlib.Nat.{div-one}
 use Rattle.laws.proofs.Arms.{told-true}
 use Rattle.meaning.specs.Words.{bits}
 use Rattle.meaning.specs.Registers.{bothTwo, filters}
-use Rattle.sampling.proofs.Codes.{both-low, row}
+use Rattle.sampling.proofs.Codes.{row}
+use Rattle.sampling.proofs.Ties.{low-codes}
 use borrow.Author.Needs.{needs}
 use Rattle.sampling.proofs.filters.Statement.{statement}
 use Rattle.sampling.proofs.filters.Tie as tie
@@ -50,19 +52,24 @@ returns-6 : tie.Need-returns-6
 unfolding filters
 returns-6 c = simp div-one (search row depth 10 fits 20000)
 
-both-two-requires : tie.Need-both-two-requires
-both-two-requires c κs = search needs
+tied-requires : tie.Need-tied-requires
+tied-requires c κs = search needs
 
 returns-7 : tie.Need-returns-7
 unfolding filters
 returns-7 c =
-    let in-t = c .before .before .before .before .before in
-    let in-s = in-t .before .before .before .before in
-    let v : ℕ = in-s .before .before .before .args .value in
-    let both : c .both-two .result ≡ bothTwo (bits 15 13 v) (bits 9 7 v) =
-    both-low (v / 0x2000) (v / 0x80) (told-true (in-s .before .filter-code .ensures) (in-s .if2 .left)) (told-true (in-t .before .filter-code3 .ensures) (in-t .if4 .left)) (c .both-two .ensures)
+    let shrink-t = c .before .before .before in
+    let enlarge-t = shrink-t .before .before in
+    let shrink-s = enlarge-t .before .before in
+    let enlarge-s = shrink-s .before .before in
+    let v : ℕ = enlarge-s .before .before .before .args .value in
+    let s-and-t : c .tied .result ≡ (bothTwo (bits 15 13 v) (bits 9 7 v) && bothTwo (bits 12 10 v) (bits 6 4 v)) =
+    c .tied .ensures
+    ∙ ap₂ _&&_
+    (low-codes (v / 0x2000) (v / 0x80) (told-true (enlarge-s .before .filter-code .ensures) (enlarge-s .if2 .left)) (told-true (enlarge-t .before .filter-code3 .ensures) (enlarge-t .if4 .left)))
+    (low-codes (v / 0x400) (v / 0x10) (told-true (shrink-s .before .filter-code2 .ensures) (shrink-s .if3 .left)) (told-true (shrink-t .before .filter-code4 .ensures) (shrink-t .if5 .left)))
     in
-    simp div-one (search (both, row) depth 10 fits 20000)
+    simp div-one (search (s-and-t, row) depth 10 fits 20000)
 
 pub filters-spec : {M : Type 1} → statement M
 filters-spec =
@@ -79,5 +86,5 @@ filters-spec =
     returns-5
     depth-code-requires
     returns-6
-    both-two-requires
+    tied-requires
     returns-7)
