@@ -68,10 +68,11 @@ mask-above x m =
     ∙ and-block 4 (x / 16) m (x % 16) 0 (omega arith) (omega arith)
     ∙ ap (λ (z : ℕ). bitAnd (x / 16) m * 16 + z) (and-zero-r (x % 16))
 
--- the four bits at their places
+-- the mask takes the bits from the top; what they come to, each at its own place
 weights : (a b c d : ℕ) → ((((0 * 8 + a) * 8 + b) * 8 + c) * 8 + d) * 16 + 0 ≡ a * 0x2000 + b * 0x400 + c * 0x80 + d * 0x10
 weights a b c d = omega arith
 
+-- what the mask leaves is the four bits, each at its place
 four-bits : (x : ℕ) → bitAnd x 0x2490 ≡ x / 2 ^ 13 % 2 * 0x2000 + x / 2 ^ 10 % 2 * 0x400 + x / 2 ^ 7 % 2 * 0x80 + x / 2 ^ 4 % 2 * 0x10
 four-bits x =
     rw (mask-above x 0x249, bit-there x 0x10 0x49, bit-there x 0x80 9, bit-there x 0x400 1, bit-there x 0x2000 0, and-zero-r (x / 0x10000))
@@ -100,6 +101,7 @@ tied-bits false false true false = refl
 tied-bits false false false true = refl
 tied-bits false false false false = refl
 
+-- of a value: the codes that are 2 are a permitted set exactly if both ties hold
 pub tied-codes : (v : ℕ)
     → oneOf (bitAnd (twos v) 0x2490) sets ≡ (bothTwo (v / 0x2000 % 4) (v / 0x80 % 4) && bothTwo (v / 0x400 % 4) (v / 0x10 % 4))
 tied-codes v =
