@@ -5,11 +5,12 @@ ghost use lib.Dec.{eqb};
 ghost use lib.Bits.{bitAnd};
 ghost use Rattle.meaning.specs.Registers as rules;
 
-// No bit of the mask is set.
+// Every bit of the mask is clear.
 pub fn must_be_clear(value: u32, mask: u32) -> bool
     ensures clear { λ r. ⌜ r ≡ eqb (bitAnd value mask) 0 ⌝ }
 {
-    value & mask == 0
+    let clear = !value;
+    clear & mask == mask
 }
 
 // Two constants from 0.0 to 1.0. 1024 stands for 1.0, so the rest of the eleven bits is without meaning.
