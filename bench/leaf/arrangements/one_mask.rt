@@ -1,0 +1,1 @@
+    value & mask == 0
