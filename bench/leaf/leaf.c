@@ -1,7 +1,7 @@
 /*
- * Asks the test of the reserved bits of 4,096 words, a given number of times, and prints how many nanoseconds that took: leaf HOW TIMES.
- * HOW is `call-unseen`, `call-seen`, `loop-unseen` or `loop-seen`, after the functions of crate/src/lib.rt; or `nothing-unseen`,
- * `nothing-seen`: the same calls of functions that return at once. bench/leaf/run counts the instructions from outside.
+ * Asks the test of the reserved bits of 4,096 words, a given number of times, and prints how many nanoseconds that took: leaf WAY TURNS.
+ * WAY is `unseen` or `constant`, after what the compiler of the test knew of the mask; or `nothing-unseen`, `nothing-constant`: the same
+ * calls of functions that return at once. bench/leaf/run counts the instructions from outside.
  */
 #define _POSIX_C_SOURCE 199309L
 #include <inttypes.h>
@@ -16,17 +16,14 @@
 typedef bool of_two(uint32_t value, uint32_t mask);
 typedef bool of_one(uint32_t value);
 
-of_two leaf_call_unseen;
-of_one leaf_call_seen;
-bool leaf_loop_unseen(const uint8_t *batch, size_t bytes, uint32_t mask);
-bool leaf_loop_seen(const uint8_t *batch, size_t bytes);
+of_two leaf_unseen;
+of_one leaf_constant;
 
 enum { WORDS = 4096, MASK = 0x76ffe0fe };
 
-/* Lent as bytes, the lowest first, as this machine has them. */
 _Alignas(64) static uint32_t words[WORDS];
 
-/* Any words, with the bits of the mask clear: so every test is passed, and no loop ends early. */
+/* Any words, with the bits of the mask clear. */
 static void fill(void)
 {
     uint32_t any = 1;
@@ -65,24 +62,14 @@ __attribute__((noinline)) static size_t by_one(of_one *test)
     return clear;
 }
 
-static size_t call_unseen(void)
+static size_t unseen(void)
 {
-    return by_two(leaf_call_unseen);
+    return by_two(leaf_unseen);
 }
 
-static size_t call_seen(void)
+static size_t constant(void)
 {
-    return by_one(leaf_call_seen);
-}
-
-static size_t loop_unseen(void)
-{
-    return leaf_loop_unseen((const uint8_t *)words, sizeof words, MASK) ? WORDS : 0;
-}
-
-static size_t loop_seen(void)
-{
-    return leaf_loop_seen((const uint8_t *)words, sizeof words) ? WORDS : 0;
+    return by_one(leaf_constant);
 }
 
 static size_t nothing_unseen(void)
@@ -90,7 +77,7 @@ static size_t nothing_unseen(void)
     return by_two(nothing_of_two);
 }
 
-static size_t nothing_seen(void)
+static size_t nothing_constant(void)
 {
     return by_one(nothing_of_one);
 }
@@ -100,12 +87,10 @@ static const struct way {
     size_t (*ask)(void);
     bool tells;
 } ways[] = {
-    { "call-unseen", call_unseen, true },
-    { "call-seen", call_seen, true },
-    { "loop-unseen", loop_unseen, true },
-    { "loop-seen", loop_seen, true },
+    { "unseen", unseen, true },
+    { "constant", constant, true },
     { "nothing-unseen", nothing_unseen, false },
-    { "nothing-seen", nothing_seen, false }
+    { "nothing-constant", nothing_constant, false }
 };
 
 static const struct way *way_called(const char *name)
@@ -140,7 +125,7 @@ int main(int argc, char **argv)
 {
     const struct way *way = argc == 3 ? way_called(argv[1]) : NULL;
     if (way == NULL) {
-        fprintf(stderr, "usage: leaf HOW TIMES\n");
+        fprintf(stderr, "usage: leaf WAY TURNS\n");
         return 2;
     }
     fill();
@@ -148,10 +133,10 @@ int main(int argc, char **argv)
         fprintf(stderr, "leaf: %s does not tell which words are clear\n", way->name);
         return 1;
     }
-    size_t times = strtoul(argv[2], NULL, 10), clear = 0;
+    size_t turns = strtoul(argv[2], NULL, 10), clear = 0;
     int64_t from = now();
-    for (size_t i = 0; i < times; i++)
+    for (size_t i = 0; i < turns; i++)
         clear += way->ask();
     printf("%" PRId64 "\n", now() - from);
-    return clear != times * WORDS;
+    return clear != turns * WORDS;
 }

@@ -1,1 +1,0 @@
-    value & mask == 0

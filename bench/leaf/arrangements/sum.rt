@@ -1,1 +1,0 @@
-    value as u64 | mask as u64 == value as u64 + mask as u64
