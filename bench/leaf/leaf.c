@@ -46,7 +46,7 @@ static bool nothing_of_one(uint32_t value)
 }
 
 /* How many words are clear. One loop for whatever is called, so that what it needs itself can be taken off. */
-__attribute__((noinline)) static size_t by_two(of_two *test)
+__attribute__((noinline, noclone)) static size_t by_two(of_two *test)
 {
     size_t clear = 0;
     for (size_t i = 0; i < WORDS; i++)
@@ -54,7 +54,7 @@ __attribute__((noinline)) static size_t by_two(of_two *test)
     return clear;
 }
 
-__attribute__((noinline)) static size_t by_one(of_one *test)
+__attribute__((noinline, noclone)) static size_t by_one(of_one *test)
 {
     size_t clear = 0;
     for (size_t i = 0; i < WORDS; i++)
