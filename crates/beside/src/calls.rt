@@ -9,6 +9,7 @@ use super::desk::STATE;
 use super::desk::len;
 use super::desk::plus;
 use super::desk::row;
+use engine::Engine;
 use meaning::Answer;
 
 // The two calls.
@@ -85,4 +86,19 @@ pub(super) fn first(desk: &mut Desk, kind: usize, bytes: usize) -> u64 {
     let told = lend_lists(desk, kind, &mut into, bytes);
     desk[LEFT] = into;
     told
+}
+
+fn open_with(state: &[u8], s: usize, grants: &[u8], g: usize) -> Engine {
+    engine::open(part(state, s), part(grants, g))
+}
+
+// Opens an engine with the state and the grants.
+pub(super) fn open_first(desk: &Desk) -> Engine {
+    let more = len(desk, BATCH);
+    open_with(
+        &desk[STATE],
+        lent(desk, STATE, more),
+        &desk[GRANTS],
+        lent(desk, GRANTS, more),
+    )
 }

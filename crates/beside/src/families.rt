@@ -19,6 +19,7 @@ use super::making::damage;
 use super::making::some_batch;
 use super::making::some_grants;
 use super::making::some_state;
+use super::tally::check_late;
 use super::tally::check_read;
 use super::tally::check_write;
 use super::tally::end_family;
@@ -55,6 +56,21 @@ fn made_up_case(desk: &mut Desk, bad: u32, how: u32, seed: u32) {
 pub(super) fn made_up(desk: &mut Desk, name: &[u8], bad: u32, how: u32, cases: u32) {
     for k in 0..cases {
         made_up_case(desk, bad, how, dice(sum(bad, how) << 20, k));
+    }
+    end_family(desk, name);
+}
+
+// A made-up batch for an engine that takes only so many words more, fewer than 32.
+fn late_case(desk: &mut Desk, seed: u32) {
+    some_grants(desk, dice(seed, 1));
+    some_state(desk, dice(seed, 2));
+    some_batch(desk, 2, dice(seed, 3));
+    check_late(desk, 0xffffffff - seed % 32);
+}
+
+pub(super) fn late(desk: &mut Desk, name: &[u8], cases: u32) {
+    for k in 0..cases {
+        late_case(desk, dice(7, k));
     }
     end_family(desk, name);
 }

@@ -19,6 +19,7 @@ use super::desk::plus;
 use super::desk::put;
 use super::desk::same;
 use super::desk::sum;
+use super::fed::feed_words;
 use super::second;
 use libc::STDOUT_FILENO;
 
@@ -27,6 +28,13 @@ use libc::STDOUT_FILENO;
 const CALLS: usize = 200;
 
 const DIFFERENCES: usize = 201;
+
+const WORDS: usize = 202;
+
+// The columns of the reasons' table behind READ and WRITE.
+pub(super) const FED: usize = 2;
+
+pub(super) const CLOSED: usize = 3;
 
 fn add_one(desk: &mut Desk, i: usize) {
     let counted = at(desk, COUNTS, i);
@@ -67,6 +75,35 @@ fn agree(desk: &Desk, first: u64, other: u64) -> bool {
     kept && first == other && same(desk, LEFT, RIGHT)
 }
 
+// The line of a reason: 23 stands behind 12.
+fn reason_line(told: u64) -> usize {
+    if told % 256 == 23 {
+        13
+    } else {
+        (told % 16) as usize
+    }
+}
+
+fn count_reason(desk: &mut Desk, told: u64, column: usize) {
+    add_one(desk, plus(reason_line(told) << 2, column));
+}
+
+// An engine's answer to opening, beside the one that is due;
+pub(super) fn check_opened(desk: &mut Desk, first: u64, due: u64) {
+    if first != due {
+        note_difference(desk, first, due);
+    }
+}
+
+// to a word, and to closing, with a state that is right or not.
+pub(super) fn check_answer(desk: &mut Desk, column: usize, first: u64, due: u64, same: bool) {
+    add_one(desk, WORDS);
+    count_reason(desk, first, column);
+    if first != due || !same {
+        note_difference(desk, first, due);
+    }
+}
+
 // The first one beside the second, each lent so many bytes of what stands at BEFORE.
 fn check(desk: &mut Desk, kind: usize, bytes: usize) -> u64 {
     copy(desk, BEFORE, RIGHT);
@@ -77,18 +114,27 @@ fn check(desk: &mut Desk, kind: usize, bytes: usize) -> u64 {
         second::write(desk, bytes)
     };
     add_one(desk, CALLS);
-    add_one(desk, plus((first % 16) as usize * 4, kind));
+    count_reason(desk, first, kind);
     if !agree(desk, first, other) {
         note_difference(desk, first, other);
     }
-    first
+    other
 }
 
 pub(super) fn check_read(desk: &mut Desk) -> u64 {
     copy(desk, STATE, BEFORE);
     let seen = &*desk;
     let bytes = plus(len(seen, STATE) << 2, len(seen, BATCH) % 4);
-    check(desk, READ, bytes)
+    let told = check(desk, READ, bytes);
+    feed_words(desk, told, 0);
+    told
+}
+
+// The batch fed into an engine that has taken so many words already.
+pub(super) fn check_late(desk: &mut Desk, before: u32) {
+    copy(desk, STATE, RIGHT);
+    let told = second::read(desk);
+    feed_words(desk, told, before);
 }
 
 // The state written, into a buffer of so many bytes.
@@ -100,6 +146,7 @@ pub(super) fn check_write(desk: &mut Desk, bytes: usize) -> u64 {
 fn tell_family(desk: &Desk, name: &[u8]) {
     io::write_all(STDOUT_FILENO, name);
     say_count(desk, b" calls=", CALLS);
+    say_count(desk, b" words fed and closings=", WORDS);
     say_count(desk, b" differences so far=", DIFFERENCES);
     end_line();
 }
@@ -107,6 +154,7 @@ fn tell_family(desk: &Desk, name: &[u8]) {
 pub(super) fn end_family(desk: &mut Desk, name: &[u8]) {
     tell_family(desk, name);
     put(desk, COUNTS, CALLS, 0);
+    put(desk, COUNTS, WORDS, 0);
 }
 
 // The line of a value: four for 01.00, one for all stages, three for all samples, and one for each video register.
@@ -139,9 +187,9 @@ fn tell_table(desk: &Desk, name: &[u8], start: usize, end: usize) {
 pub(super) fn tell(desk: &Desk) {
     tell_table(
         desk,
-        b"reasons 0 to 12, a line each: reads, writes\n",
+        b"reasons 0 to 12 and 23, a line each: reads, writes, words fed, closings\n",
         0,
-        52,
+        56,
     );
     tell_table(
         desk,

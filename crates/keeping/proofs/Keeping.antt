@@ -187,3 +187,12 @@ KeptFrom ws starts lasts s l b = (s ≡ keptAfter ws starts lasts .starts) × ((
 pub kept-after : (ws starts lasts : List ℕ) → length starts ≡ mostGrants → length lasts ≡ mostGrants → grantsFine ws ≡ true → {s l b : List ℕ}
     → KeptFrom ws starts lasts s l b → Keeps (termsOf ws) s l b × Bounded b
 kept-after ws starts lasts ns nl f kept = rw (kept .0, kept .1 .0, kept .1 .1) (keeps ws starts lasts ns nl (holds-of f))
+
+-- and no part of it ends before it begins
+pub begun-first : (ws starts lasts : List ℕ) → grantsFine ws ≡ true → (role : ℕ) → role < 4
+    → getD (keptAfter ws starts lasts .bounds) role 0 ≤ getD (keptAfter ws starts lasts .bounds) (4 + role) 0
+unfolding keptAfter keptOf
+begun-first ws starts lasts f role high =
+    let gs = grantsOf ws in
+    let first : Kept = record { starts = starts; lasts = lasts; bounds = beginnings gs } in
+    rw f (all-ready gs first (ready-first ws (holds-of f)) .room .begun role high)

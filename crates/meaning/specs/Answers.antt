@@ -64,6 +64,10 @@ badBuffer = 13
 abbrev pub notListing : ℕ
 notListing = 19
 
+-- Y23 "engine: a word is fed after 2^32 − 1 that were taken"
+abbrev pub engineFull : ℕ
+engineFull = 23
+
 -- Y0 "all is done": A1 "Reason 0 is success, and any other is a refusal."
 abbrev pub success : ℕ
 success = 0

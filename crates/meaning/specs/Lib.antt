@@ -11,6 +11,7 @@ pub mod State
 pub mod Positions
 pub mod Answers
 pub mod Reader
+pub mod Engine
 pub mod Writer
 pub mod Text
 pub mod Lister

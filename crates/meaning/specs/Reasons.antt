@@ -20,6 +20,7 @@ use Rattle.meaning.specs.Grants.{Terms, termsOf, grantsFine}
 use Rattle.meaning.specs.Batch.{reaches, Fits, offset3D, most3D, allowed, named}
 use Rattle.meaning.specs.State.{stateWords, valueAt, markAt, wellFormed}
 use Rattle.meaning.specs.Positions.{positionAt, goes, carries}
+use Rattle.meaning.specs.Engine.{mostFed, Call, opening, feeding, closing, fedBy}
 use Rattle.meaning.specs.Writer.{written}
 use Rattle.meaning.specs.Lister.{listing}
 use Rattle.meaning.specs.Listings.{Listed, LongestListing}
@@ -82,6 +83,31 @@ pub data ReaderGives (batch grants st : List ℕ) : ℕ → ℕ → Type 0 where
   -- Y0 "all is done | reader: the length of the batch"
   accepted : T (wellFormed st) → T (grantsFine grants) → NoneBefore (termsOf grants) batch (length batch)
       → positionAt batch (length batch) .left ≡ 0 → ReaderGives batch grants st 0 (length batch)
+
+-- ---- the engine: reason r at place p, to a call
+
+-- Y0 to Y10 and Y23 of the engine, for state and grants as they were handed in at opening
+pub data EngineGives (st grants : List ℕ) : Call → ℕ → ℕ → Type 0 where
+  -- M1 "Opening gives 1, then 2, as the reader does.", M2 "every later call repeats that answer"
+  bad-state : {c : Call} → ¬ T (wellFormed st) → EngineGives st grants c 1 0
+  bad-grants : {c : Call} → T (wellFormed st) → ¬ T (grantsFine grants) → EngineGives st grants c 2 0
+  -- M1 "Else it answers 0 at 0."
+  opened : T (wellFormed st) → T (grantsFine grants) → EngineGives st grants opening 0 0
+  -- M3 "A word is refused exactly if the reader gives one of 3 to 9", M6 "They and closing are given the same answer."
+  at-word : {c : Call} {r p : ℕ} → T (wellFormed st) → T (grantsFine grants) → p < length (fedBy c) → p < mostFed
+      → NoneBefore (termsOf grants) (fedBy c) p → GivenAt (termsOf grants) (fedBy c) p r → EngineGives st grants c r p
+  -- Y23 "a word is fed after 2^32 − 1 that were taken | 2^32 − 1", and M6 again
+  full : {c : Call} → T (wellFormed st) → T (grantsFine grants) → mostFed < length (fedBy c)
+      → NoneBefore (termsOf grants) (fedBy c) mostFed → EngineGives st grants c 23 mostFed
+  -- M4 "A word that is taken is answered 0 at the number of words fed."
+  taken : {ws : List ℕ} → T (wellFormed st) → T (grantsFine grants) → length ws ≤ mostFed → NoneBefore (termsOf grants) ws (length ws)
+      → EngineGives st grants (feeding ws) 0 (length ws)
+  -- M7 "Closing gives the reader's answer on the words fed": Y10 "the batch is over before a packet is | the length of the batch",
+  ends-inside : {ws : List ℕ} → T (wellFormed st) → T (grantsFine grants) → length ws ≤ mostFed
+      → NoneBefore (termsOf grants) ws (length ws) → 0 < positionAt ws (length ws) .left → EngineGives st grants (closing ws) 10 (length ws)
+  -- Y0 "all is done"
+  accepted : {ws : List ℕ} → T (wellFormed st) → T (grantsFine grants) → length ws ≤ mostFed
+      → NoneBefore (termsOf grants) ws (length ws) → positionAt ws (length ws) .left ≡ 0 → EngineGives st grants (closing ws) 0 (length ws)
 
 -- ---- the writer, given room for so many words
 

@@ -24,6 +24,9 @@ pub const MOST_BYTES: usize = 65536;
 // The most grants that a list has.
 pub const MOST_GRANTS: usize = 64;
 
+// The most words that an engine takes.
+pub const MOST_FED: u32 = 0xffffffff;
+
 // The reasons that code answers, as specs/Answers names them.
 pub const SUCCESS: u32 = 0;
 
@@ -52,6 +55,8 @@ pub const NO_ROOM: u32 = 11;
 pub const NOT_WRITABLE: u32 = 12;
 
 pub const NOT_A_LISTING: u32 = 19;
+
+pub const ENGINE_FULL: u32 = 23;
 
 // And the one that the C calls answer by themselves, as the number that they answer: place 0.
 pub const BAD_BUFFER: u64 = 13;

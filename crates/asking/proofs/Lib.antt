@@ -1,0 +1,5 @@
+pub mod Offsets
+pub mod Asking
+pub mod Positions
+pub mod Parts
+pub mod Next

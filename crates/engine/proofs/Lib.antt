@@ -1,0 +1,5 @@
+pub mod Bits
+pub mod Closing
+pub mod Opening
+pub mod Feeding
+pub mod Standing

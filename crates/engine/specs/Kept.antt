@@ -1,0 +1,120 @@
+-- What an engine keeps: after opening, after a word; and what stands then, as the steps have it.
+-- Assumes nothing.
+use mathlib.Core.Bool.{cond}
+use mathlib.Core.List.{List, [], _∷_, _++_}
+use Prim.Native.Nat.{ℕ, zero, suc, _+_, _%_}
+use lib.Dec.{leb, ltb}
+use lib.ListN.{getD, take, set, replicate}
+use Rattle.meaning.specs.Registers.{cells}
+use Rattle.meaning.specs.Grants.{Terms, mostGrants, grantsFine}
+use Rattle.meaning.specs.State.{wellFormed}
+use Rattle.meaning.specs.Answers.{badState, badGrants, engineFull, success, answer}
+use Rattle.meaning.specs.Engine.{mostFed}
+use Rattle.keeping.specs.Keeping.{Kept, keptAfter}
+use Rattle.asking.specs.declared.Asked.{Asked}
+use Rattle.asking.specs.Asked.{kindFrom, askedIn}
+use Rattle.feeding.specs.Steps.{Standing}
+use Rattle.engine.specs.declared.Engine.{Engine}
+use Rattle.engine.specs.Bits.{marksOf, withMark, packed}
+
+-- ---- opening
+
+-- as many zeros
+abbrev pub zeros : ℕ → List ℕ
+zeros n = replicate n 0
+
+-- eight bounds as bytes
+abbrev pub byteBounds : List ℕ → List ℕ
+byteBounds b =
+    getD b 0 0 % 256 ∷ getD b 1 0 % 256 ∷ getD b 2 0 % 256 ∷ getD b 3 0 % 256
+    ∷ getD b 4 0 % 256 ∷ getD b 5 0 % 256 ∷ getD b 6 0 % 256 ∷ getD b 7 0 % 256 ∷ []
+
+-- before the first word: the answer, the values and the bits of the marks, and kept grants, their bounds as bytes
+abbrev pub before : ℕ → List ℕ → List ℕ → Kept → Engine
+before r values bits kept =
+    record {
+      reason = r;
+      place = 0;
+      left = 0;
+      under = 0;
+      marks = bits;
+      marked = bits;
+      values = values;
+      before = values;
+      starts = kept .starts;
+      lasts = kept .lasts;
+      bounds = byteBounds (kept .bounds);
+    }
+
+-- nothing is kept of a state or of grants
+abbrev pub blank : ℕ → Engine
+blank r = before r (zeros cells) (zeros 4) (record { starts = zeros mostGrants; lasts = zeros mostGrants; bounds = zeros 8 })
+
+-- an engine that is opened with a state and grants: 1, then 2, else it keeps both
+unfoldable pub openedWith : List ℕ → List ℕ → Engine
+openedWith st grants =
+    cond (wellFormed st)
+    (cond (grantsFine grants) (before success (take cells st) (packed st cells (zeros 4)) (keptAfter grants (zeros mostGrants) (zeros mostGrants))) (blank badGrants))
+    (blank badState)
+
+-- ---- a word
+
+-- a refusal, and nothing else changes
+abbrev pub refusedBy : ℕ → Engine → Engine
+refusedBy r e =
+    record {
+      reason = r;
+      place = e .place;
+      left = e .left;
+      under = e .under;
+      marks = e .marks;
+      marked = e .marked;
+      values = e .values;
+      before = e .before;
+      starts = e .starts;
+      lasts = e .lasts;
+      bounds = e .bounds;
+    }
+
+-- a word that is taken: the next position, and its write, if it has one
+abbrev pub takenBy : Asked → Engine → Engine
+takenBy a e =
+    record {
+      reason = e .reason;
+      place = e .place + 1;
+      left = a .left;
+      under = a .under;
+      marks = cond (ltb (a .cell .0) cells) (withMark (e .marks) (a .cell .0)) (e .marks);
+      marked = e .marked;
+      values = cond (ltb (a .cell .0) cells) (set (e .values) (a .cell .0) (a .value)) (e .values);
+      before = e .before;
+      starts = e .starts;
+      lasts = e .lasts;
+      bounds = e .bounds;
+    }
+
+-- by what the word is told
+abbrev pub toldBy : ℕ → Asked → Engine → Engine
+toldBy zero a e = takenBy a e
+toldBy (suc r) a e = refusedBy (suc r) e
+
+-- by the reason that stands
+abbrev pub unlessRefused : ℕ → Engine → Engine → Engine
+unlessRefused zero e next = next
+unlessRefused (suc r) e next = e
+
+-- an engine after a word, under the grants that it keeps
+unfoldable pub fedWith : Terms → Engine → ℕ → Engine
+fedWith g e w =
+    let a = askedIn g (kindFrom (e .under)) (e .left) w in
+    unlessRefused (e .reason) e (cond (leb mostFed (e .place)) (refusedBy engineFull e) (toldBy (a .reason) a e))
+
+-- ---- what stands
+
+-- the state at opening
+abbrev pub opening : Engine → List ℕ
+opening e = e .before ++ marksOf (e .marked)
+
+-- the answer, the position, and the state with what the words write
+abbrev pub standing : Engine → Standing
+standing e = record { answer = answer (e .reason) (e .place); kind = kindFrom (e .under); left = e .left; pending = e .values ++ marksOf (e .marks) }

@@ -1,0 +1,1 @@
+// The theory of words fed one at a time; there is no function here.
