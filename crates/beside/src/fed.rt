@@ -16,7 +16,6 @@ use super::tally::FED;
 use super::tally::check_answer;
 use super::tally::check_opened;
 use engine::Closed;
-use engine::Engine;
 
 // The most words that are taken.
 pub(super) const MOST: usize = 0xffffffff;
@@ -83,34 +82,30 @@ fn same_state(desk: &Desk, list: usize, closed: Closed) -> bool {
     apart == 0
 }
 
-fn standing(engine: Engine) -> u64 {
-    answer(engine.reason, engine.place as usize)
-}
-
-fn close(desk: &mut Desk, engine: Engine, told: u64, before: usize) {
+// The state that is handed back, and the answer to closing.
+fn check_closed(desk: &mut Desk, closed: Closed, told: u64, before: usize) {
     let seen = &*desk;
-    let closed = engine::close(engine);
     let end = due(told, before, len(seen, BATCH), (told % 256) as u32);
-    let same = same_state(seen, state_due(told, end), closed);
     let first = answer(closed.answer.reason, closed.answer.place);
+    let same = same_state(seen, state_due(told, end), closed);
     check_answer(desk, CLOSED, first, end, same);
 }
 
-fn feed(desk: &mut Desk, mut engine: Engine, told: u64, before: usize) {
-    let n = len(desk, BATCH);
-    for i in 0..n {
-        engine = engine::feed(engine, at(desk, BATCH, i));
-        check_answer(desk, FED, standing(engine), due(told, before, plus(i, 1), 0), true);
-    }
-    close(desk, engine, told, before);
+// An engine that was not opened has taken nothing.
+fn taken_before(told: u64, before: u32) -> u32 {
+    if never_opened(told) { 0 } else { before }
 }
 
 // Opens an engine with the state and the grants and feeds it the batch, on which the second reader answers as told.
 pub(super) fn feed_words(desk: &mut Desk, told: u64, before: u32) {
     let mut engine = open_first(desk);
-    check_opened(desk, standing(engine), due(told, 0, 0, 0));
-    if !never_opened(told) {
-        engine.place = before;
+    check_opened(desk, answer(engine.reason, engine.place as usize), due(told, 0, 0, 0));
+    engine.place = taken_before(told, before);
+    let n = len(desk, BATCH);
+    for i in 0..n {
+        engine = engine::feed(engine, at(desk, BATCH, i));
+        let first = answer(engine.reason, engine.place as usize);
+        check_answer(desk, FED, first, due(told, before as usize, plus(i, 1), 0), true);
     }
-    feed(desk, engine, told, before as usize);
+    check_closed(desk, engine::close(engine), told, before as usize);
 }

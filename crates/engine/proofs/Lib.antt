@@ -2,4 +2,3 @@ pub mod Bits
 pub mod Closing
 pub mod Opening
 pub mod Feeding
-pub mod Standing

@@ -84,6 +84,10 @@ use Rattle.emitter_3d.proofs.emit_3d.Reads as emit-3d
 use Rattle.emitter.proofs.emit.Reads as emit
 use Rattle.lines.proofs.put_line_3d.Reads as put-line-3d
 use Rattle.lines.proofs.put_line_video.Reads as put-line-video
+use Rattle.asking.proofs.ask.Reads as ask
+use Rattle.engine.proofs.open.Reads as engine-open
+use Rattle.engine.proofs.feed.Reads as engine-feed
+use Rattle.engine.proofs.close.Reads as engine-close
 use Rattle.reader.proofs.read.Reads as read
 use Rattle.writer.proofs.write.Reads as write
 use Rattle.lister.proofs.list.Reads as list
@@ -119,6 +123,16 @@ list-asks κs a = nothing-asked
 pub read-listing-asks : AsksNothing read-listing.Asked
 read-listing-asks κs a = nothing-asked
 
+-- of the engine, whatever engine they are handed
+pub engine-open-asks : AsksNothing engine-open.Asked
+engine-open-asks κs a = nothing-asked
+
+pub engine-feed-asks : AsksNothing engine-feed.Asked
+engine-feed-asks κs a = nothing-asked
+
+pub engine-close-asks : AsksNothing engine-close.Asked
+engine-close-asks κs a = nothing-asked
+
 -- and of the driver, as their own crate has it
 pub irangelda-read-asks : AsksNothing irangelda-read.Asked
 irangelda-read-asks = calls.irangelda-read-asks
@@ -132,11 +146,24 @@ irangelda-list-asks = calls.irangelda-list-asks
 pub irangelda-read-listing-asks : AsksNothing irangelda-read-listing.Asked
 irangelda-read-listing-asks = calls.irangelda-read-listing-asks
 
--- D1 "asks nothing of its caller": all eight
+-- D1 "asks nothing of its caller": all eleven
 pub asks-nothing : AsksNothing read.Asked × AsksNothing write.Asked × AsksNothing list.Asked × AsksNothing read-listing.Asked
+    × AsksNothing engine-open.Asked × AsksNothing engine-feed.Asked × AsksNothing engine-close.Asked
     × AsksNothing irangelda-read.Asked × AsksNothing irangelda-write.Asked × AsksNothing irangelda-list.Asked × AsksNothing irangelda-read-listing.Asked
 asks-nothing =
-    (read-asks, write-asks, list-asks, read-listing-asks, irangelda-read-asks, irangelda-write-asks, irangelda-list-asks, irangelda-read-listing-asks)
+    (
+      read-asks,
+      write-asks,
+      list-asks,
+      read-listing-asks,
+      engine-open-asks,
+      engine-feed-asks,
+      engine-close-asks,
+      irangelda-read-asks,
+      irangelda-write-asks,
+      irangelda-list-asks,
+      irangelda-read-listing-asks,
+    )
 
 -- ==== What they are made of
 
@@ -370,3 +397,8 @@ read-line-asks κs a = asks-this
 
 pub furthest-asks : AsksExactly furthest.Asked (λ _ (text, (at, (first, (end, _)))). (at ≤ length (now text)) × (end ≤ cells))
 furthest-asks κs a = asks-this
+
+-- ---- words one at a time
+
+pub ask-asks : AsksNothing ask.Asked
+ask-asks κs a = nothing-asked

@@ -1,6 +1,9 @@
 pub mod AsksNothing
 pub mod Bytes
 pub mod Driver
+pub mod Standing
+pub mod Histories
+pub mod Engine
 pub mod Listings
 pub mod OneAnswer
 pub mod Promises

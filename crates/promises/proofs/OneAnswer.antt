@@ -3,10 +3,11 @@
 -- part is needed too, it is NAME.Asked.
 -- Assumes nothing.
 use mathlib.Core.Path.{_≡_, sym, ap₂, _∙_}
-use mathlib.Core.List.{[]}
+use mathlib.Core.List.{List, []}
 use Prim.Native.Nat.{ℕ}
 use native.Mathlib.Omega.{arith}
 use denote.Ref.{now}
+use Rattle.meaning.specs.declared.Answer.{Answer}
 use Rattle.meaning.specs.Grants.{Terms}
 use Rattle.grants.proofs.Keeping.{part-some, kept-some}
 use Rattle.rows_video.specs.Scalers.{first}
@@ -66,6 +67,12 @@ use Rattle.needs.proofs.needed.Reads as needed
 use Rattle.lines.proofs.put_line_3d.Reads as put-line-3d
 use Rattle.lines.proofs.put_line_video.Reads as put-line-video
 use Rattle.keeping.proofs.keep.Reads as keep
+use Rattle.asking.specs.Asked.{capped}
+use Rattle.asking.proofs.ask.Reads as ask
+use Rattle.engine.specs.declared.Closed.{Closed}
+use Rattle.engine.proofs.open.Reads as engine-open
+use Rattle.engine.proofs.feed.Reads as engine-feed
+use Rattle.engine.proofs.close.Reads as engine-close
 use Rattle.reader.proofs.read.Reads as read
 use Rattle.search.proofs.lowest_bad.Reads as lowest-bad
 use Rattle.writer.proofs.write.Reads as write
@@ -354,6 +361,24 @@ pub read-packets-one : (κs : _) (a : _) (r r' : _) (s s' : _) → read-packets.
 read-packets-one κs a r r' s s' p q =
     let k = kept-some (now (a .1 .0)) (now (a .1 .1 .0)) (now (a .1 .1 .1 .0)) in
     (one-answer (p .0 (k .0) (k .1)) (q .0 (k .0) (k .1)), one-answer (p .1 (k .0) (k .1)) (q .1 (k .0) (k .1)))
+
+-- whatever an engine keeps keeps some grants
+pub ask-one : Determined ask.Learnt
+ask-one κs a r r' s s' p q =
+    let k = kept-some (now (a .1 .1 .1 .0)) (now (a .1 .1 .1 .1 .0)) (capped (now (a .1 .1 .1 .1 .1 .0))) in
+    one-answer (p (k .0) (k .1)) (q (k .0) (k .1))
+
+-- all of the engine, so also every answer to a later call
+pub engine-open-one : Determined engine-open.Learnt
+engine-open-one κs a r r' s s' p q = one-answer p q
+
+pub engine-feed-one : Determined engine-feed.Learnt
+engine-feed-one κs a r r' s s' p q =
+    let k = kept-some (a .0 .starts) (a .0 .lasts) (capped (a .0 .bounds)) in
+    one-answer (p (k .0) (k .1)) (q (k .0) (k .1))
+
+pub engine-close-one : Determined engine-close.Learnt
+engine-close-one κs a r r' s s' p q = ap₂ (λ (x : Answer) (st : List ℕ). record { answer = x; state = st }) (one-answer (p .0) (q .0)) (one-answer (p .1) (q .1))
 
 pub irangelda-read-one : (κs : _) (a : _) (r r' : _) (s s' : _) → irangelda-read.Learnt κs a r s → irangelda-read.Learnt κs a r' s'
     → (r ≡ r') × (now (s .1 .1 .0) ≡ now (s' .1 .1 .0))

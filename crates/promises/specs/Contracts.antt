@@ -1,22 +1,29 @@
--- What the contracts of reader, writer, lister and listing reader allow, and those of the calls of the driver: an answer, and what is left in the buffer
--- that is lent to be changed.
+-- What the contracts of reader, writer, lister, listing reader and engine allow, and those of the calls of the driver: an answer, and what is left in
+-- the buffer that is lent to be changed.
 -- Assumes nothing.
 use mathlib.Core.Path.{_≡_}
 use mathlib.Core.Logic.{_↔_}
 use mathlib.Core.Bool.{_&&_}
-use mathlib.Core.List.{List, [], _∷_}
+use mathlib.Core.List.{List, [], _∷_, _++_}
 use Prim.Native.Nat.{ℕ, _/_, _%_}
 use lib.Dec.{T}
 use lib.ListN.{length, replicate}
 use Rattle.laws.specs.Lists.{All, every, over}
 use Rattle.meaning.specs.declared.Answer.{Answer}
 use Rattle.meaning.specs.Words.{Byte, wordsOf, bytesOf}
-use Rattle.meaning.specs.Answers.{numberOf, settle}
+use Rattle.meaning.specs.Grants.{Terms}
+use Rattle.meaning.specs.Answers.{answer, numberOf, settle}
 use Rattle.meaning.specs.Reader.{readAnswer, readLeaves}
 use Rattle.meaning.specs.Writer.{written, writeAnswer}
 use Rattle.meaning.specs.Lister.{listAnswer, listLeaves}
 use Rattle.meaning.specs.ListingReader.{listingAnswer, listingLeaves}
 use Rattle.meaning.specs.Exported.{bufferFine, wordBufferFine, exportedRead, exportedReadLeaves, exportedWrite, exportedWriteLeaves, exportedList, exportedListLeaves, exportedReadListing, exportedReadListingLeaves}
+use Rattle.grants.specs.Kept.{Keeps}
+use Rattle.asking.specs.Asked.{capped}
+use Rattle.feeding.specs.Steps.{closes, leaves}
+use Rattle.engine.specs.declared.Engine.{Engine}
+use Rattle.engine.specs.declared.Closed.{Closed}
+use Rattle.engine.specs.Kept.{openedWith, fedWith, opening, standing}
 
 -- `reader::read` on the bytes of a batch, of a grant list and of a state answers a and leaves the bytes `left` of the state. The words
 -- over the front of the state's bytes are those that the definitions leave; bytes past the last whole word stay
@@ -39,6 +46,29 @@ Listing st out a left = (a ≡ listAnswer (wordsOf st) (length out)) × (left �
 abbrev pub ReadingListing : List ℕ → List ℕ → Answer → List ℕ → Type 0
 ReadingListing text st a left =
     (a ≡ listingAnswer text (wordsOf st)) × (left ≡ settle a (over (bytesOf (listingLeaves text (wordsOf st))) st) st)
+
+-- ---- the engine
+
+-- `engine::open` on the bytes of a state and of a grant list makes the engine e
+abbrev pub Opening : List ℕ → List ℕ → Engine → Type 0
+Opening st grants e = e ≡ openedWith (wordsOf st) (wordsOf grants)
+
+-- `engine::feed` makes the engine r of the engine e and a word, under whatever grants e keeps
+abbrev pub Feeding : Engine → ℕ → Engine → Type 0
+Feeding e w r = (g : Terms) → Keeps g (e .starts) (e .lasts) (capped (e .bounds)) → r ≡ fedWith g e w
+
+-- `engine::close` makes c of the engine e: an answer and a state
+abbrev pub Closing : Engine → Closed → Type 0
+Closing e c = (c .answer ≡ closes (standing e)) × (c .state ≡ leaves (standing e) (opening e))
+
+-- an engine that was opened with the bytes of a state and of a grant list, and then fed these words, one after another
+pub data Fed (st grants : List ℕ) : List ℕ → Engine → Type 0 where
+  just-opened : {e : Engine} → Opening st grants e → Fed st grants [] e
+  and-fed : {ws : List ℕ} {e r : Engine} (w : ℕ) → Fed st grants ws e → Feeding e w r → Fed st grants (ws ++ (w ∷ [])) r
+
+-- the answer to the last call
+abbrev pub answered : Engine → Answer
+answered e = answer (e .reason) (e .place)
 
 -- ---- the calls of the driver
 

@@ -1,4 +1,4 @@
--- What an engine keeps after a word stands for what the step makes of what stood before; and an engine that is opened for what is handed in.
+-- What an engine keeps after a word stands for what the step makes of what stood before.
 -- Assumes nothing.
 use mathlib.Core.Path.{_≡_, refl, sym, ap, _∙_}
 use mathlib.Core.Logic.{_≢_}
@@ -30,10 +30,10 @@ use Rattle.asking.specs.declared.Asked.{Asked}
 use Rattle.asking.specs.Asked.{kindFrom, underOf, cellOf, valueOf, passed, unlessStopped, askedIn}
 use Rattle.asking.proofs.Next.{next-again}
 use Rattle.feeding.specs.Steps as steps
 use Rattle.engine.specs.declared.Engine.{Engine}
 use Rattle.engine.specs.Bits.{marksOf, withMark}
 use Rattle.engine.specs.Kept.{refusedBy, takenBy, toldBy, unlessRefused, fedWith, standing}
-use Rattle.engine.proofs.Bits.{mark-set}
+use Rattle.engine.proofs.Bits.{mark-set, with-length}
 
 -- ---- a write into values and marks
 
@@ -101,3 +101,37 @@ module _ (g : Terms) (e : Engine) (w : ℕ) (sized : Sized e) where
   pub fed-stands : standing (fedWith g e w) ≡ steps.step g (standing e) w
   unfolding fedWith steps.step askedIn
   fed-stands = fed-by (e .reason) refl (leb mostFed (e .place)) (judge g kind (e .left) w) refl refl
+
+-- ---- what no word changes
+
+-- the state at opening and the grants, and how long the arrays are
+pub record Same (e r : Engine) : Type 0 where
+  pub before : r .before ≡ e .before
+  pub marked : r .marked ≡ e .marked
+  pub starts : r .starts ≡ e .starts
+  pub lasts : r .lasts ≡ e .lasts
+  pub bounds : r .bounds ≡ e .bounds
+  pub sized : Sized r
+
+module _ (e : Engine) (sized : Sized e) where
+  same : Same e e
+  same = record { before = refl; marked = refl; starts = refl; lasts = refl; bounds = refl; sized = sized }
+
+  set-sized : (b : Bool) (c v : ℕ) → (length (cond b (set (e .values) c v) (e .values)) ≡ cells) × (length (cond b (withMark (e .marks) c) (e .marks)) ≡ 4)
+  set-sized true c v = (length-set (e .values) c v ∙ sized .values, with-length (e .marks) c ∙ sized .marks)
+  set-sized false c v = (sized .values, sized .marks)
+
+  same-by : (r : ℕ) (b : Bool) (x : ℕ) (a : Asked) → Same e (unlessRefused r e (cond b (refusedBy engineFull e) (toldBy x a e)))
+  same-by (suc r) b x a = same
+  same-by zero true x a = record { before = refl; marked = refl; starts = refl; lasts = refl; bounds = refl; sized = record { values = sized .values; marks = sized .marks } }
+  same-by zero false (suc x) a =
+      record { before = refl; marked = refl; starts = refl; lasts = refl; bounds = refl; sized = record { values = sized .values; marks = sized .marks } }
+  same-by zero false zero a =
+      let s = set-sized (ltb (a .cell .0) cells) (a .cell .0) (a .value) in
+      record { before = refl; marked = refl; starts = refl; lasts = refl; bounds = refl; sized = record { values = s .0; marks = s .1 } }
+
+  pub fed-same : (g : Terms) (w : ℕ) → Same e (fedWith g e w)
+  unfolding fedWith
+  fed-same g w =
+      let a = askedIn g (kindFrom (e .under)) (e .left) w in
+      same-by (e .reason) (leb mostFed (e .place)) (a .reason) a
