@@ -14,7 +14,7 @@ use Rattle.meaning.specs.Registers.{registerAt, findVideo}
 use Rattle.meaning.specs.Grants.{Terms}
 use Rattle.meaning.specs.Batch.{allowed, named}
 use Rattle.meaning.specs.Positions.{kindOf, after, nextKind, nextLeft, goes, carries, writeAt}
-use Rattle.meaning.specs.Answers.{badCount, badSetting, success}
+use Rattle.meaning.specs.Answers.{badCount, badSetting}
 use Rattle.meaning.specs.Reader.{unless, valueReason, headerReason, wordReason, judge}
 use Rattle.headers.specs.declared.Group.{Group}
 use Rattle.headers.specs.Told.{Runs, cellIn, Leads}
@@ -23,7 +23,7 @@ use Rattle.judging.specs.Judged.{judgedIn}
 use Rattle.judging.proofs.Judging.{cell-judged}
 use Rattle.bodies.proofs.Bodies.{parameter-asked}
 use Rattle.asking.specs.declared.Asked.{Asked}
-use Rattle.asking.specs.Asked.{underOf, stopped, movedOn, passed, unlessStopped, boundFor, askedIn}
+use Rattle.asking.specs.Asked.{underOf, stopped, takenAs, movedOn, passed, unlessStopped, boundFor, askedIn}
 use Rattle.asking.proofs.Offsets.{run-offset}
 
 -- ---- a reason that is 0, and one that is not
@@ -89,7 +89,7 @@ module _ {G : Group} (a : SubAddress) (d : ℕ) {j : Judged} (g : Terms) (s k w 
   parameter-refused n = refused-by g (Parameter s) (suc k) w (j .reason) reason-of n
 
   -- and one that writes the cell that was found
-  pub parameter-taken : j .reason ≡ 0 → record { reason = success; left = k; under = s; cell = j .cell; value = d } ≡ askedIn g (Parameter s) (suc k) w
+  pub parameter-taken : j .reason ≡ 0 → takenAs k s (j .cell) d ≡ askedIn g (Parameter s) (suc k) w
   unfolding judge nextKind nextLeft after writeAt goes carries
   parameter-taken z =
       let at : named s w ≡ At (j .cell) = rw (sym ea) (leads .found a ∙ cell-judged g d (cellIn G a) told z) in

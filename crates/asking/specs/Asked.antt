@@ -60,20 +60,17 @@ valueOf (w ∷ ws) = w .value
 abbrev pub stopped : ℕ → Asked
 stopped r = record { reason = r; left = 0; under = 0; cell = cell cells; value = 0 }
 
--- a word that is taken and writes nothing
+-- a word that is taken: the next position, and what it writes
+abbrev pub takenAs : ℕ → ℕ → Cell → ℕ → Asked
+takenAs k u c v = record { reason = success; left = k; under = u; cell = c; value = v }
+
+-- one that writes nothing
 abbrev pub movedOn : ℕ → ℕ → Asked
-movedOn k u = record { reason = success; left = k; under = u; cell = cell cells; value = 0 }
+movedOn k u = takenAs k u (cell cells) 0
 
 -- nothing speaks against the word: where the next one stands, and what this one writes
 abbrev pub passed : Kind → ℕ → ℕ → Asked
-passed kind k w =
-    record {
-      reason = success;
-      left = nextLeft k w;
-      under = underOf (nextKind kind k w);
-      cell = cellOf (writeAt kind k w);
-      value = valueOf (writeAt kind k w);
-    }
+passed kind k w = takenAs (nextLeft k w) (underOf (nextKind kind k w)) (cellOf (writeAt kind k w)) (valueOf (writeAt kind k w))
 
 -- by the word's reason
 abbrev pub unlessStopped : ℕ → Asked → Asked
@@ -82,7 +79,7 @@ unlessStopped (suc r) a = stopped (suc r)
 
 -- a word for the video register of a cell, with that reason: the next one is bound for the offset behind it
 abbrev pub boundFor : ℕ → ℕ → ℕ → ℕ → Cell → Asked
-boundFor r o w k c = unlessStopped r (record { reason = success; left = k; under = o + 4; cell = c; value = w })
+boundFor r o w k c = unlessStopped r (takenAs k (o + 4) c w)
 
 -- what a word is told, of that kind and with so many words left in its packet
 unfoldable pub askedIn : Terms → Kind → ℕ → ℕ → Asked

@@ -7,7 +7,7 @@ ghost use Rattle.meaning.specs.Words.{videoOffset};
 ghost use Rattle.meaning.specs.Grants.{Terms, mostGrants};
 ghost use Rattle.grants.specs.Kept.{Granting, Keeps};
 ghost use Rattle.headers.specs.Told.{Leads};
-ghost use Rattle.asking.specs.Asked.{kindFrom, partIn, capped, stopped, movedOn, boundFor, askedIn};
+ghost use Rattle.asking.specs.Asked.{kindFrom, partIn, capped, stopped, takenAs, movedOn, boundFor, askedIn};
 use grants::BOUNDS;
 use grants::Part;
 use grants::Spans;
@@ -72,17 +72,24 @@ fn refused(reason: u32) -> Asked
     }
 }
 
-// A word that is taken and writes nothing.
-fn moved_on(left: u32, under: u32) -> Asked
-    ensures moved { λ r. ⌜ r ≡ movedOn left under ⌝ }
+// A word that is taken.
+fn taken(left: u32, under: u32, cell: Cell, value: u32) -> Asked
+    ensures taken { λ r. ⌜ r ≡ takenAs left under cell value ⌝ }
 {
     Asked {
         reason: SUCCESS,
         left,
         under,
-        cell: Cell(CELLS),
-        value: 0,
+        cell,
+        value,
     }
+}
+
+// One that writes nothing.
+fn moved_on(left: u32, under: u32) -> Asked
+    ensures moved { λ r. ⌜ r ≡ movedOn left under ⌝ }
+{
+    taken(left, under, Cell(CELLS), 0)
 }
 
 // A header.
@@ -138,13 +145,7 @@ fn at_parameter(
         return refused(judged.reason);
     }
     let cell = judged.cell;
-    Asked {
-        reason: SUCCESS,
-        left,
-        under: setting,
-        cell,
-        value,
-    }
+    taken(left, setting, cell, value)
 }
 
 // A word for the video register of a cell, whose reason is known.
@@ -155,13 +156,7 @@ fn for_video(reason: u32, offset: u32, word: u32, left: u32, cell: Cell) -> Aske
     if reason != 0 {
         return refused(reason);
     }
-    Asked {
-        reason: SUCCESS,
-        left,
-        under: offset + 4,
-        cell,
-        value: word,
-    }
+    taken(left, offset + 4, cell, word)
 }
 
 // A word for a video register. Its offset is looked up as the header of a run of one word would be.

@@ -2,11 +2,13 @@
 -- Assumes nothing.
 use mathlib.Core.Path.{_≡_, refl, sym, ap, _∙_}
 use mathlib.Core.Logic.{_≢_}
+use mathlib.Core.Bool.{Bool, true, false, cond}
 use mathlib.Core.List.{List, _++_}
 use Prim.Native.Nat.{ℕ, zero, suc, _+_, _-_, _<_}
 use native.Mathlib.Omega.{arith}
 use native.Mathlib.Decide.{ℕ-discrete, decLt}
 use borrow.Author.Tests.{ne-eqb}
+use lib.Dec.{eqb}
 use lib.ListN.{length, getD, set, length-append, length-set, List·getD-append}
 use lib.Seq.{ext-getD, getD-set-same, getD-set-other, getD-append-add}
 use Rattle.meaning.specs.Registers.{cells}
@@ -15,6 +17,7 @@ use Rattle.meaning.specs.Answers.{endsInside, success, answer}
 use Rattle.meaning.specs.Reader.{ended}
 use Rattle.feeding.specs.Steps.{Standing, closes, leaves}
 use Rattle.engine.specs.Bits.{bitOf, marksOf}
+use Rattle.engine.specs.Kept.{closingReason}
 use Rattle.engine.proofs.Bits.{marks-length, mark-at}
 
 -- ---- the loop over the cells
@@ -67,23 +70,35 @@ all-laid values marks state c full n laid =
 
 -- ---- closing
 
-module _ (s : Standing) (st : List ℕ) where
-  -- a refusal stands
-  pub close-refused : s .answer .reason ≢ 0 → {state : List ℕ} → state ≡ st → (s .answer ≡ closes s) × (state ≡ leaves s st)
-  unfolding closes leaves
-  close-refused n e = rw (ne-eqb (s .answer .reason) 0 n, ne-eqb (s .answer .reason) 0 n) (refl, e)
+module _ (s : Standing) (st : List ℕ) {r : ℕ} (told : r ≡ closingReason (s .answer .reason) (s .left)) where
+  -- the answer is that reason at the place that stands
+  by-reason : (b : Bool) → eqb (s .answer .reason) success ≡ b
+      → cond b (answer (ended (s .left) .reason) (s .answer .place)) (s .answer) ≡ answer (cond b (ended (s .left) .reason) (s .answer .reason)) (s .answer .place)
+  by-reason true e = refl
+  by-reason false e = refl
 
-  module _ (z : s .answer .reason ≡ 0) where
-    ended-open : (k : ℕ) → k ≢ 0 → ended k .reason ≡ endsInside
-    ended-open zero n = absurd (n refl)
-    ended-open (suc k) n = refl
+  closes-by : answer r (s .answer .place) ≡ closes s
+  unfolding closes
+  closes-by = rw told (sym (by-reason (eqb (s .answer .reason) success) refl))
 
-    -- a packet is open
-    pub close-open : s .left ≢ 0 → {state : List ℕ} → state ≡ st → (answer endsInside (s .answer .place) ≡ closes s) × (state ≡ leaves s st)
-    unfolding closes leaves
-    close-open n e = rw (z, ended-open (s .left) n) (refl, e)
+  -- a refusal: the state as it was at opening
+  pub close-refused : r ≢ 0 → {state : List ℕ} → state ≡ st → (answer r (s .answer .place) ≡ closes s) × (state ≡ leaves s st)
+  unfolding leaves
+  close-refused n e = (closes-by, rw (sym closes-by, ne-eqb r 0 n) e)
 
-    -- none is
-    pub close-whole : s .left ≡ 0 → {state : List ℕ} → state ≡ s .pending → (answer success (s .answer .place) ≡ closes s) × (state ≡ leaves s st)
-    unfolding closes leaves
-    close-whole n e = rw (z, n) (refl, e)
+  -- none: with what the words wrote
+  pub close-whole : r ≡ 0 → {state : List ℕ} → state ≡ s .pending → (answer r (s .answer .place) ≡ closes s) × (state ≡ leaves s st)
+  unfolding leaves
+  close-whole z e = (closes-by, rw (sym closes-by, z) e)
+
+-- the reason that stands
+pub stood : (r k : ℕ) → r ≢ 0 → r ≡ closingReason r k
+stood r k n = rw (ne-eqb r 0 n)
+
+-- 10, or none
+pub ends : (r k : ℕ) → r ≡ 0 → k ≢ 0 → endsInside ≡ closingReason r k
+ends r zero z n = absurd (n refl)
+ends r (suc k) z n = rw z
+
+pub none : (r k : ℕ) → r ≡ 0 → k ≡ 0 → success ≡ closingReason r k
+none r k z e = rw (z, e)

@@ -1,14 +1,15 @@
 -- What an engine keeps: after opening, after a word; and what stands then, as the steps have it.
 -- Assumes nothing.
-use mathlib.Core.Bool.{cond}
+use mathlib.Core.Bool.{Bool, cond}
 use mathlib.Core.List.{List, [], _∷_, _++_}
 use Prim.Native.Nat.{ℕ, zero, suc, _+_, _%_}
-use lib.Dec.{leb, ltb}
+use lib.Dec.{leb, ltb, eqb}
 use lib.ListN.{getD, take, set, replicate}
 use Rattle.meaning.specs.Registers.{cells}
 use Rattle.meaning.specs.Grants.{Terms, mostGrants, grantsFine}
 use Rattle.meaning.specs.State.{wellFormed}
 use Rattle.meaning.specs.Answers.{badState, badGrants, engineFull, success, answer}
+use Rattle.meaning.specs.Reader.{ended}
 use Rattle.meaning.specs.Engine.{mostFed}
 use Rattle.keeping.specs.Keeping.{Kept, keptAfter}
 use Rattle.asking.specs.declared.Asked.{Asked}
@@ -50,12 +51,20 @@ before r values bits kept =
 abbrev pub blank : ℕ → Engine
 blank r = before r (zeros cells) (zeros 4) (record { starts = zeros mostGrants; lasts = zeros mostGrants; bounds = zeros 8 })
 
--- an engine that is opened with a state and grants: 1, then 2, else it keeps both
+-- 1 where the state is not well-formed, then 2 where the grant list breaks its rules
+abbrev pub openingReason : Bool → Bool → ℕ
+openingReason formed fine = cond formed (cond fine success badGrants) badState
+
+-- by the reason: an engine that keeps the state and the grants, or nothing of them
+abbrev pub unlessBlank : ℕ → Engine → Engine
+unlessBlank zero e = e
+unlessBlank (suc r) e = blank (suc r)
+
+-- an engine that is opened with a state and grants
 unfoldable pub openedWith : List ℕ → List ℕ → Engine
 openedWith st grants =
-    cond (wellFormed st)
-    (cond (grantsFine grants) (before success (take cells st) (packed st cells (zeros 4)) (keptAfter grants (zeros mostGrants) (zeros mostGrants))) (blank badGrants))
-    (blank badState)
+    unlessBlank (openingReason (wellFormed st) (grantsFine grants))
+    (before success (take cells st) (packed st cells (zeros 4)) (keptAfter grants (zeros mostGrants) (zeros mostGrants)))
 
 -- ---- a word
 
@@ -108,6 +117,12 @@ unfoldable pub fedWith : Terms → Engine → ℕ → Engine
 fedWith g e w =
     let a = askedIn g (kindFrom (e .under)) (e .left) w in
     unlessRefused (e .reason) e (cond (leb mostFed (e .place)) (refusedBy engineFull e) (toldBy (a .reason) a e))
+
+-- ---- closing
+
+-- the reason that stands, or 10 where a packet is open
+abbrev pub closingReason : ℕ → ℕ → ℕ
+closingReason r k = cond (eqb r success) (ended k .reason) r
 
 -- ---- what stands
 

@@ -13,7 +13,7 @@ ghost use Rattle.grants.specs.Kept.{Keeps};
 ghost use Rattle.asking.specs.Asked.{capped};
 ghost use Rattle.feeding.specs.Steps.{closes, leaves};
 ghost use Rattle.engine.specs.Bits.{bitOf, marksOf, withMark, packed};
-ghost use Rattle.engine.specs.Kept.{byteBounds, blank, openedWith, fedWith, opening, standing};
+ghost use Rattle.engine.specs.Kept.{openingReason, byteBounds, blank, openedWith, fedWith, closingReason, opening, standing};
 use asking::ByteBounds;
 use grants::BOUNDS;
 use grants::Bounds;
@@ -37,6 +37,8 @@ pub type Values = [u32; CELLS];
 pub type Marks = [u32; MARK_WORDS];
 
 pub const MARK_WORDS: usize = 4;
+
+const MARKS_IN_WORD: usize = 32;
 
 // What is kept between words: the answer that stands, which is 0 at the number of words fed as long as none is refused; the position in the
 // packet (asking::Asked says how); the cells with all that the words fed write; the cells as they were at opening; and the grants, as
@@ -66,8 +68,8 @@ fn set_mark(marks: &mut Marks, cell: usize)
     requires inside { ⌜ cell < cells ⌝ }
     ensures marked { λ _. ⌜ now (marks .exit) ≡ withMark (now (marks .entry)) cell ⌝ }
 {
-    let i = cell / 32;
-    marks[i] = marks[i] | 1u32 << cell % 32;
+    let i = cell / MARKS_IN_WORD;
+    marks[i] = marks[i] | 1u32 << cell % MARKS_IN_WORD;
 }
 
 // Sets the mark of a cell that a state marks.
@@ -141,19 +143,32 @@ fn refused(reason: u32) -> Engine
     }
 }
 
+// 1 before 2.
+fn opening_reason(formed: bool, fine: bool) -> u32
+    ensures reason { λ r. ⌜ r ≡ openingReason formed fine ⌝ }
+{
+    if !formed {
+        return BAD_STATE;
+    }
+    if !fine {
+        return BAD_GRANTS;
+    }
+    SUCCESS
+}
+
 // Opens an engine with copies of a state and of grants: 1 if the state is not well-formed, 2 if the grant list breaks its rules, else 0 at 0.
 // Bytes past the last whole word of a buffer count for nothing.
 pub fn open(state: &[u8], grants: &[u8]) -> Engine
     ensures opened { λ r. ⌜ r ≡ openedWith (wordsOf (now (state .entry))) (wordsOf (now (grants .entry))) ⌝ }
 {
-    if !states::well_formed(state) {
-        return refused(BAD_STATE);
-    }
     let mut starts = [0u32; MOST_GRANTS];
     let mut lasts = [0u32; MOST_GRANTS];
     let mut bounds = [0usize; BOUNDS];
-    if !keeping::keep(grants, &mut starts, &mut lasts, &mut bounds) {
-        return refused(BAD_GRANTS);
+    let formed = states::well_formed(state);
+    let fine = keeping::keep(grants, &mut starts, &mut lasts, &mut bounds);
+    let reason = opening_reason(formed, fine);
+    if reason != 0 {
+        return refused(reason);
     }
     let mut values = [0u32; CELLS];
     let mut marks = [0u32; MARK_WORDS];
@@ -216,7 +231,7 @@ fn mark_in(marks: &Marks, cell: usize) -> u32
     requires inside { ⌜ cell < cells ⌝ }
     ensures mark { λ r. ⌜ r ≡ bitOf (now (marks .entry)) cell ⌝ }
 {
-    (marks[cell / 32] >> cell % 32) % 2
+    (marks[cell / MARKS_IN_WORD] >> cell % MARKS_IN_WORD) % 2
 }
 
 // A state out of values and marks.
@@ -234,6 +249,19 @@ fn lay<'a>(values: &'a Values, marks: &'a Marks, state: &mut State)
     }
 }
 
+// The refusal that stands, or 10 where the open packet wants more words.
+fn closing_reason(reason: u32, left: u32) -> u32
+    ensures reason { λ r. ⌜ r ≡ closingReason reason left ⌝ }
+{
+    if reason != 0 {
+        return reason;
+    }
+    if left != 0 {
+        return ENDS_INSIDE;
+    }
+    SUCCESS
+}
+
 // Closes an engine: the reader's answer on the words fed, or the refusal that stands; and the state, changed only if all is accepted.
 pub fn close(engine: Engine) -> Closed
     ensures answer { λ r. ⌜ r .answer ≡ closes (standing engine) ⌝ }
@@ -241,7 +269,7 @@ pub fn close(engine: Engine) -> Closed
 {
     let mut state = [0u32; STATE_WORDS];
     let place = engine.place as usize;
-    let reason = engine.reason;
+    let reason = closing_reason(engine.reason, engine.left);
     if reason != 0 {
         lay(&engine.before, &engine.marked, &mut state);
         return Closed {
@@ -249,22 +277,9 @@ pub fn close(engine: Engine) -> Closed
             state,
         };
     }
-    if engine.left != 0 {
-        lay(&engine.before, &engine.marked, &mut state);
-        return Closed {
-            answer: Answer {
-                reason: ENDS_INSIDE,
-                place,
-            },
-            state,
-        };
-    }
     lay(&engine.values, &engine.marks, &mut state);
     Closed {
-        answer: Answer {
-            reason: SUCCESS,
-            place,
-        },
+        answer: Answer { reason, place },
         state,
     }
 }

@@ -35,7 +35,7 @@ use Rattle.engine.specs.declared.Closed.{Closed}
 use Rattle.engine.specs.Bits.{marksOf, packed}
 use Rattle.engine.specs.Kept.{zeros, byteBounds, before, blank, openedWith, fedWith, opening, standing}
 use Rattle.engine.proofs.Bits.{packed-length, state-packed}
-use Rattle.engine.proofs.Closing.{close-refused}
+use Rattle.engine.proofs.Closing.{close-refused, stood}
 use Rattle.engine.proofs.Feeding.{fed-stays}
 use Rattle.promises.proofs.Standing.{Sized, fed-stands, Same, fed-same}
 use Rattle.promises.specs.Contracts.{Opening, Feeding, Closing, Fed, just-opened, and-fed, answered}
@@ -187,7 +187,8 @@ module _ (st grants ws : List ℕ) (e : Engine) (h : Holds st grants ws e) where
           )
         | no n ↦
           let same = h .refused n in
-          let refusal = close-refused (standing e) (opening e) (λ z. n (sym (ap (λ (a : Answer). a .reason) same) ∙ z)) refl in
+          let m : e .reason ≢ 0 = λ z. n (sym (ap (λ (a : Answer). a .reason) same) ∙ z) in
+          let refusal = close-refused (standing e) (opening e) (stood (e .reason) (e .left) m) m refl in
           let again = refused-at-opening st grants ws n in (
             closed .0 ∙ sym (refusal .0) ∙ same ∙ sym (again .close),
             closed .1 ∙ sym (refusal .1) ∙ h .opens ∙ none-by (opens-as st grants) n ∙ sym (again .state),

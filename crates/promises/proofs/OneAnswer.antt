@@ -69,7 +69,6 @@ use Rattle.lines.proofs.put_line_video.Reads as put-line-video
 use Rattle.keeping.proofs.keep.Reads as keep
 use Rattle.asking.specs.Asked.{capped}
 use Rattle.asking.proofs.ask.Reads as ask
-use Rattle.engine.specs.declared.Closed.{Closed}
 use Rattle.engine.proofs.open.Reads as engine-open
 use Rattle.engine.proofs.feed.Reads as engine-feed
 use Rattle.engine.proofs.close.Reads as engine-close

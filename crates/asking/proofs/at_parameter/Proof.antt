@@ -24,10 +24,13 @@ returns c g given =
     let j = c .before .before .before in
     c .refused .ensures ∙ parameter-refused _ _ g _ _ _ (j .before .before .before .pre .0) (j .before .sub-address .ensures) (j .before .before .«data» .ensures) (j .judge-parameter .ensures g given) (c .before .if1 .taken)
 
+taken-requires : tie.Need-taken-requires
+taken-requires c κs = search needs
+
 returns-2 : tie.Need-returns-2
 returns-2 c g given =
-    let j = c .before .before .before in
-    parameter-taken _ _ g _ _ _ (j .before .before .before .pre .0) (j .before .sub-address .ensures) (j .before .before .«data» .ensures) (j .judge-parameter .ensures g given) (c .before .if1 .left)
+    let j = c .before .before .before .before in
+    c .taken .ensures ∙ parameter-taken _ _ g _ _ _ (j .before .before .before .pre .0) (j .before .sub-address .ensures) (j .before .before .«data» .ensures) (j .judge-parameter .ensures g given) (c .before .before .if1 .left)
 
 pub at-parameter-spec : {M : Type 1} → statement M
 at-parameter-spec =
@@ -38,4 +41,5 @@ at-parameter-spec =
     judge-parameter-requires
     refused-requires
     returns
+    taken-requires
     returns-2)

@@ -12,11 +12,14 @@ refused-requires c κs = search needs
 returns : tie.Need-returns
 returns c = c .refused .ensures ∙ stops _ _ (c .before .if1 .taken)
 
-add-t7 : tie.Need-add-t7
-add-t7 c = search needs
+add-taken : tie.Need-add-taken
+add-taken c = search needs
+
+taken-requires : tie.Need-taken-requires
+taken-requires c κs = search needs
 
 returns-2 : tie.Need-returns-2
-returns-2 c = passes _ (c .if1 .left)
+returns-2 c = c .taken .ensures ∙ passes _ (c .before .if1 .left)
 
 pub for-video-spec : {M : Type 1} → statement M
-for-video-spec = tie.close (tie.spec refused-requires returns add-t7 returns-2)
+for-video-spec = tie.close (tie.spec refused-requires returns add-taken taken-requires returns-2)
