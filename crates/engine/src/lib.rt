@@ -83,27 +83,17 @@ fn load_mark(marks: &mut Marks, cell: usize, mark: u32)
     set_mark(marks, cell);
 }
 
-// The marks of a state as bits,
-fn load_marks(state: &[u8], marks: &mut Marks)
-    requires whole { ⌜ length (wordsOf (now state)) ≡ stateWords ⌝ }
-    ensures packed { λ _. ⌜ now (marks .exit) ≡ packed (wordsOf (now (state .entry))) cells (now (marks .entry)) ⌝ }
-{
-    let mut c = 0;
-    while c < CELLS {
-        load_mark(marks, c, states::mark(state, Cell(c)));
-        c += 1;
-    }
-}
-
-// and its values.
-fn load_values(state: &[u8], values: &mut Values)
+// The values of a state, and its marks as bits.
+fn load(state: &[u8], values: &mut Values, marks: &mut Marks)
     requires whole { ⌜ length (wordsOf (now state)) ≡ stateWords ⌝ }
     requires array { ⌜ length (now values) ≡ cells ⌝ }
     ensures values { λ _. ⌜ now (values .exit) ≡ take cells (wordsOf (now (state .entry))) ⌝ }
+    ensures marks { λ _. ⌜ now (marks .exit) ≡ packed (wordsOf (now (state .entry))) cells (now (marks .entry)) ⌝ }
 {
     let mut c = 0;
     while c < CELLS {
         values[c] = states::value(state, Cell(c));
+        load_mark(marks, c, states::mark(state, Cell(c)));
         c += 1;
     }
 }
@@ -172,8 +162,7 @@ pub fn open(state: &[u8], grants: &[u8]) -> Engine
     }
     let mut values = [0u32; CELLS];
     let mut marks = [0u32; MARK_WORDS];
-    load_values(state, &mut values);
-    load_marks(state, &mut marks);
+    load(state, &mut values, &mut marks);
     let bytes = byte_bounds(&bounds);
     Engine {
         reason: SUCCESS,

@@ -34,7 +34,7 @@ use Rattle.engine.specs.declared.Engine.{Engine}
 use Rattle.engine.specs.declared.Closed.{Closed}
 use Rattle.engine.specs.Bits.{marksOf, packed}
 use Rattle.engine.specs.Kept.{zeros, byteBounds, before, blank, openedWith, fedWith, opening, standing}
-use Rattle.engine.proofs.Bits.{packed-length, state-packed}
+use Rattle.promises.proofs.Marks.{packed-length, state-packed}
 use Rattle.engine.proofs.Closing.{close-refused, stood}
 use Rattle.engine.proofs.Feeding.{fed-stays}
 use Rattle.promises.proofs.Standing.{Sized, fed-stands, Same, fed-same}

@@ -1,6 +1,7 @@
 pub mod AsksNothing
 pub mod Bytes
 pub mod Driver
+pub mod Marks
 pub mod Standing
 pub mod Histories
 pub mod Engine

@@ -33,7 +33,7 @@ use Rattle.feeding.specs.Steps as steps
 use Rattle.engine.specs.declared.Engine.{Engine}
 use Rattle.engine.specs.Bits.{marksOf, withMark}
 use Rattle.engine.specs.Kept.{refusedBy, takenBy, toldBy, unlessRefused, fedWith, standing}
-use Rattle.engine.proofs.Bits.{mark-set, with-length}
+use Rattle.promises.proofs.Marks.{mark-set, with-length}
 
 -- ---- a write into values and marks
 

@@ -1,3 +1,5 @@
+-- By the two tests.
+-- Assumes nothing.
 use mathlib.Core.Path.{refl}
 use Rattle.meaning.specs.Words.{wordsOf}
 use Rattle.engine.proofs.Opening.{whole, refused, is-formed, opened}
@@ -20,19 +22,16 @@ refused-requires c κs = search needs
 returns : tie.Need-returns
 returns c = refused (wordsOf (c .before .before .before .before .before .before .before .before .before .before .args .state .now)) (wordsOf (c .before .before .before .before .before .before .before .before .before .before .args .grants .now)) (c .before .before .before .before .before .before .before .well-formed .ensures) (c .before .before .before .keep .ensures .0) (c .before .before .opening-reason .ensures) (c .before .if1 .taken) (c .refused .ensures)
 
-load-values-requires : tie.Need-load-values-requires
-load-values-requires c κs = (whole _ (is-formed (wordsOf (c .before .before .before .before .before .before .before .before .before .before .args .state .now)) (wordsOf (c .before .before .before .before .before .before .before .before .before .before .args .grants .now)) (c .before .before .before .before .before .before .before .well-formed .ensures) (c .before .before .before .keep .ensures .0) (c .before .before .opening-reason .ensures) (c .before .if1 .left)), refl)
-
-load-marks-requires : tie.Need-load-marks-requires
-load-marks-requires c κs = whole _ (is-formed (wordsOf (c .before .before .before .before .before .before .before .before .before .before .before .before .args .state .now)) (wordsOf (c .before .before .before .before .before .before .before .before .before .before .before .before .args .grants .now)) (c .before .before .before .before .before .before .before .before .before .well-formed .ensures) (c .before .before .before .before .before .keep .ensures .0) (c .before .before .before .before .opening-reason .ensures) (c .before .before .before .if1 .left))
+load-requires : tie.Need-load-requires
+load-requires c κs = (whole _ (is-formed (wordsOf (c .before .before .before .before .before .before .before .before .before .before .before .args .state .now)) (wordsOf (c .before .before .before .before .before .before .before .before .before .before .before .args .grants .now)) (c .before .before .before .before .before .before .before .before .well-formed .ensures) (c .before .before .before .before .keep .ensures .0) (c .before .before .before .opening-reason .ensures) (c .before .before .if1 .left)), refl)
 
 byte-bounds-requires : tie.Need-byte-bounds-requires
 byte-bounds-requires c κs = search needs
 
 returns-2 : tie.Need-returns-2
 returns-2 c =
-    opened (wordsOf (c .before .before .before .before .before .before .before .before .before .before .before .before .before .before .before .args .state .now)) (wordsOf (c .before .before .before .before .before .before .before .before .before .before .before .before .before .before .before .args .grants .now)) (c .before .before .before .before .before .before .before .before .before .before .before .before .well-formed .ensures) (c .before .before .before .before .before .before .before .before .keep .ensures .0) (c .before .before .before .before .before .before .before .opening-reason .ensures) (c .before .before .before .before .before .before .if1 .left)
-    (c .before .before .before .before .before .before .before .before .keep .ensures .1) (c .before .before .before .before .load-values .ensures) (c .before .before .load-marks .ensures) (c .byte-bounds .ensures)
+    let l = c .before .before .load .ensures in
+    opened (wordsOf (c .before .before .before .before .before .before .before .before .before .before .before .before .before .before .args .state .now)) (wordsOf (c .before .before .before .before .before .before .before .before .before .before .before .before .before .before .args .grants .now)) (c .before .before .before .before .before .before .before .before .before .before .before .well-formed .ensures) (c .before .before .before .before .before .before .before .keep .ensures .0) (c .before .before .before .before .before .before .opening-reason .ensures) (c .before .before .before .before .before .if1 .left) (c .before .before .before .before .before .before .before .keep .ensures .1) (l .0) (l .1) (c .byte-bounds .ensures)
 
 pub open-spec : {M : Type 1} → statement M
 open-spec =
@@ -43,7 +42,6 @@ open-spec =
     opening-reason-requires
     refused-requires
     returns
-    load-values-requires
-    load-marks-requires
+    load-requires
     byte-bounds-requires
     returns-2)
