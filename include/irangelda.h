@@ -113,7 +113,10 @@ enum irangelda_reason {
     IRANGELDA_BAD_BUFFER = 13,
     /* Read a listing: the bytes are not the listing of any state, or of one with a 3D value of 2^24 or more. Place: the first byte
        with which no listing goes on; the length of the listing if it is cut short, and so has no such byte. */
-    IRANGELDA_NOT_A_LISTING = 19
+    IRANGELDA_NOT_A_LISTING = 19,
+    /* Given by no call of this header: by the engine that takes a batch word by word, which has no call in C (docs/DRIVER.md), for a
+       word that is fed after 2^32 - 1 that were taken. Place: 2^32 - 1. */
+    IRANGELDA_ENGINE_FULL = 23
 };
 
 /* The reason and the place of an answer. */

@@ -1,30 +1,25 @@
 -- Where a word is taken, the number that is kept for the next one tells its kind again.
 -- Assumes nothing.
-use mathlib.Core.Path.{_≡_, refl, sym, ap, _∙_}
-use mathlib.Core.Logic.{_≢_}
+use mathlib.Core.Path.{_≡_, refl, ap, _∙_}
 use mathlib.Core.Bool.{Bool, true, false, _&&_, cond, and-false}
 use Prim.Native.Nat.{ℕ, zero, suc, _+_, _/_, _%_, _^_, _≤_, _<_}
 use native.Mathlib.Omega.{arith}
-use native.Mathlib.Decide.{ℕ-discrete, decLt}
-use borrow.Author.Tests.{eq-eqb, ne-eqb}
-use mir.Facts.{and-yes}
+use native.Mathlib.Decide.{decLt}
 use lib.Dec.{T, eqb}
 use Rattle.laws.specs.Lists.{every, from, some}
 use Rattle.laws.specs.Tests.{within}
 use Rattle.laws.proofs.Lists.{every-from}
-use Rattle.laws.proofs.Tests.{within-iff, true-of, false-of, holds-of}
-use Rattle.meaning.specs.declared.Cell.{Cell}
+use Rattle.laws.proofs.Tests.{within-iff, true-of}
 use Rattle.meaning.specs.declared.VideoOffset.{VideoOffset}
 use Rattle.meaning.specs.declared.Found.{Found}
 use Rattle.meaning.specs.declared.Found.the-variants.{At, Missing}
-use Rattle.meaning.specs.declared.Kind.{Kind}
 use Rattle.meaning.specs.declared.Kind.the-variants.{Setting, Parameter, Video}
-use Rattle.meaning.specs.Words.{count, offset, videoOffset, following, paraAdr, paraOS, paraType, paraSubType}
+use Rattle.meaning.specs.Words.{offset, videoOffset, following, paraAdr, paraOS, paraType, paraSubType}
 use Rattle.meaning.specs.Registers.{firstVideo, endVideo, cell, isFound, findVideo}
 use Rattle.meaning.specs.Grants.{Terms}
 use Rattle.meaning.specs.Batch.{offset3D, allowedTypes, typeAllowed, allowed}
 use Rattle.meaning.specs.Positions.{kindOf, after, nextKind}
-use Rattle.meaning.specs.Reader.{unless, reasonVideo, headerReason, foundReason, wordReason, judge}
+use Rattle.meaning.specs.Reader.{reasonVideo, headerReason, foundReason, wordReason, judge}
 use Rattle.meaning.proofs.Verdicts.{unless-fine}
 use Rattle.registers.specs.Names.{offsetOf}
 use Rattle.registers.proofs.Names.{no-video}

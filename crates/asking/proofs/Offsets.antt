@@ -18,14 +18,7 @@ use Rattle.meaning.specs.Reader.{unless, runIn, headerReason}
 use Rattle.meaning.proofs.Packets.{never-both}
 use Rattle.meaning.proofs.Stretches.{kind-3D, kind-video}
 use Rattle.registers.proofs.Names.{named-video}
-use Rattle.headers.specs.declared.Header.{Header}
-use Rattle.headers.specs.Headers.{headerOf}
-use Rattle.headers.specs.Told.{Runs, Opens}
-use Rattle.headers.proofs.Openings.{opens}
-
--- what the code has of a header, and what that tells
-pub opened : (h : ℕ) {x y : Header} → x ≡ headerOf h → x ≡ y → Opens h y
-opened h e f = rw (← e, f) at (opens h)
+use Rattle.headers.specs.Told.{Runs}
 
 -- no word is both a setting and one of a run
 kinds-apart : {k : Kind} {o : VideoOffset} → k ≡ Setting → k ≡ Video o → ⊥

@@ -26,11 +26,7 @@ use Rattle.asking.specs.Asked.{kindFrom, askedIn}
 -- ---- the group of a number
 
 module _ (s : ℕ) {G : Group} (e : G ≡ groupOf s) where
-  -- a number of no group is no setting that is allowed,
-  pub no-setting : G ≡ Nothing → allowed s ≡ false
-  no-setting z = rw (← e, z) at (names s)
-
-  -- and one whose group is one of the others leads there
+  -- a number whose group is one of the others leads there
   pub leads : OneOf (0 ∷ 1 ∷ 2 ∷ []) (tagOf the-type G) → Leads s G
   leads = by G (rw (← e) at (names s))
     where

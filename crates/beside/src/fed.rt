@@ -99,13 +99,23 @@ fn taken_before(told: u64, before: u32) -> u32 {
 // Opens an engine with the state and the grants and feeds it the batch, on which the second reader answers as told.
 pub(super) fn feed_words(desk: &mut Desk, told: u64, before: u32) {
     let mut engine = open_first(desk);
-    check_opened(desk, answer(engine.reason, engine.place as usize), due(told, 0, 0, 0));
+    check_opened(
+        desk,
+        answer(engine.reason, engine.place as usize),
+        due(told, 0, 0, 0),
+    );
     engine.place = taken_before(told, before);
     let n = len(desk, BATCH);
     for i in 0..n {
         engine = engine::feed(engine, at(desk, BATCH, i));
         let first = answer(engine.reason, engine.place as usize);
-        check_answer(desk, FED, first, due(told, before as usize, plus(i, 1), 0), true);
+        check_answer(
+            desk,
+            FED,
+            first,
+            due(told, before as usize, plus(i, 1), 0),
+            true,
+        );
     }
     check_closed(desk, engine::close(engine), told, before as usize);
 }

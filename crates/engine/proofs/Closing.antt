@@ -39,16 +39,16 @@ module _ (values marks state : List ℕ) (c : ℕ) (laid : Laid values marks sta
       record {
         size = length-set (set state c v) (cells + c) m ∙ long ∙ n;
         value = λ i l.
-          getD-set-other (set state c v) (cells + c) i m 0 (λ z. omega arith)
-          ∙ elim (ℕ-discrete i c) [
-            | yes z ↦ rw z (getD-set-same state c v 0 (omega arith) ∙ e)
-            | no z ↦ getD-set-other state c i v 0 z ∙ laid .value i (omega arith)
-          ];
+            getD-set-other (set state c v) (cells + c) i m 0 (λ z. omega arith)
+            ∙ elim (ℕ-discrete i c) [
+              | yes z ↦ rw z (getD-set-same state c v 0 (omega arith) ∙ e)
+              | no z ↦ getD-set-other state c i v 0 z ∙ laid .value i (omega arith)
+            ];
         mark = λ i l. elim (ℕ-discrete i c) [
           | yes z ↦ rw z (getD-set-same (set state c v) (cells + c) m 0 (omega arith) ∙ f)
           | no z ↦
-            getD-set-other (set state c v) (cells + c) (cells + i) m 0 (λ y. z (omega arith))
-            ∙ getD-set-other state c (cells + i) v 0 (λ y. omega arith) ∙ laid .mark i (omega arith)
+              getD-set-other (set state c v) (cells + c) (cells + i) m 0 (λ y. z (omega arith))
+              ∙ getD-set-other state c (cells + i) v 0 (λ y. omega arith) ∙ laid .mark i (omega arith)
         ];
       }
 
@@ -60,12 +60,12 @@ all-laid values marks state c full n laid =
     elim (decLt i cells) [
       | yes l ↦ laid .value i (omega arith) ∙ sym (List·getD-append values (marksOf marks) 0 i (omega arith))
       | no l ↦
-        let k = i - cells in
-        let e : i ≡ cells + k = omega arith in
-        let f : i ≡ length values + k = omega arith in
-        let m : k < cells = omega (arith, laid .size) in
-        ap (λ (j : ℕ). getD state j 0) e ∙ laid .mark k (omega arith) ∙ sym (mark-at marks k m)
-        ∙ sym (ap (λ (j : ℕ). getD (values ++ marksOf marks) j 0) f ∙ getD-append-add values (marksOf marks) k 0)
+          let k = i - cells in
+          let e : i ≡ cells + k = omega arith in
+          let f : i ≡ length values + k = omega arith in
+          let m : k < cells = omega (arith, laid .size) in
+          ap (λ (j : ℕ). getD state j 0) e ∙ laid .mark k (omega arith) ∙ sym (mark-at marks k m)
+          ∙ sym (ap (λ (j : ℕ). getD (values ++ marksOf marks) j 0) f ∙ getD-append-add values (marksOf marks) k 0)
     ])
 
 -- ---- closing

@@ -13,7 +13,6 @@ use Rattle.meaning.specs.Grants.{mostGrants, grantsFine}
 use Rattle.meaning.specs.State.{stateWords, wellFormed}
 use Rattle.meaning.specs.Answers.{success}
 use Rattle.meaning.proofs.States.{formed-iff}
-use Rattle.keeping.specs.Keeping.{keptAfter}
 use Rattle.keeping.proofs.Keeping.{KeptFrom}
 use Rattle.engine.specs.declared.Engine.{Engine}
 use Rattle.engine.specs.Bits.{packed}
@@ -49,8 +48,17 @@ module _ (st grants : List ℕ) {formed fine : Bool} (f : formed ≡ wellFormed 
     pub opened : {starts lasts bounds values marks bytes : List ℕ} → KeptFrom grants (zeros mostGrants) (zeros mostGrants) starts lasts bounds
         → values ≡ take cells st → marks ≡ packed st cells (zeros 4) → bytes ≡ byteBounds bounds
         → _≡_ {A = Engine} (record {
-          reason = success; place = 0; left = 0; under = 0; marks = marks; marked = marks; values = values; before = values;
-          starts = starts; lasts = lasts; bounds = bytes;
+          reason = success;
+          place = 0;
+          left = 0;
+          under = 0;
+          marks = marks;
+          marked = marks;
+          values = values;
+          before = values;
+          starts = starts;
+          lasts = lasts;
+          bounds = bytes;
         }) (openedWith st grants)
     unfolding openedWith
     opened k v m b = rw (sym as-told, z, k .0, k .1 .0, v, m, b, k .1 .1)

@@ -1,7 +1,7 @@
 -- One word fed, as a step from what stands before it to what stands after it. proofs/Steps ties the steps to what the engine answers.
 -- Assumes nothing.
 use mathlib.Core.Bool.{cond}
-use mathlib.Core.List.{List, [], _∷_}
+use mathlib.Core.List.{List}
 use Prim.Native.Nat.{ℕ, zero, suc}
 use lib.Dec.{leb, eqb}
 use Rattle.meaning.specs.declared.Kind.{Kind}

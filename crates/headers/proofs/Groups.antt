@@ -129,6 +129,10 @@ names s =
       ]
     ]
 
+-- one that the code finds no group for is none that is allowed
+pub unnamed : (s : ℕ) {G : Group} → G ≡ groupOf s → G ≡ Nothing → allowed s ≡ false
+unnamed s e z = rw (← e, z) at (names s)
+
 -- each group is named by some setting: a contract that speaks of those determines what it answers
 pub some-setting : (G : Group) → IsGroup G → (s : ℕ) × Leads s G
 some-setting _ target = (0x10000, leads-target 0x10000 refl (sub-type-is 0x10000))

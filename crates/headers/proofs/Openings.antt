@@ -141,3 +141,7 @@ opens h =
     by-test (Opens h) (eqb (offset h) offset3D) (λ t. opens-3D h (eqb-yes t)) (λ f.
     let other : offset h ≡ offset3D → ⊥ = λ e. f (yes-eqb e) in
     by-test (Opens h) (within 0x2208 0x2210 (offset h)) (opens-overlay h other) (opens-scaler h other))
+
+-- the same of what the code has of a header
+pub told : (h : ℕ) {x y : Header} → x ≡ headerOf h → x ≡ y → Opens h y
+told h e f = rw (← e, f) at (opens h)

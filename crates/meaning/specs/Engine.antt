@@ -29,7 +29,7 @@ unfoldable pub counted : ℕ → Answer
 counted n = cond (leb n mostFed) (answer success n) (answer engineFull mostFed)
 
 -- the answer to the last of the words fed. M3 "on the words fed up to and with it"; a word past the last that is taken is not looked at,
--- M5 "whatever it is". Once the reader has refused a word, words behind it do not move its answer, so that M6 "They .. are given the same
+-- M5 "whatever it is", A9 "It gives 23 before 3 to 9.". Once the reader has refused a word, words behind it do not move its answer, so that M6 "They .. are given the same
 -- answer" is theirs too
 unfoldable pub fedAnswer : Terms → List ℕ → Answer
 fedAnswer g ws = cond (wordRefused (batchAnswer g (take mostFed ws))) (batchAnswer g (take mostFed ws)) (counted (length ws))

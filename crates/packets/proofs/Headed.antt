@@ -5,7 +5,6 @@ use mathlib.Core.Bool.{true, false}
 use mathlib.Core.List.{List, _∷_}
 use Prim.Native.Nat.{ℕ, _+_, _≤_, _<_}
 use native.Mathlib.Numerals.{add-one}
-use native.Mathlib.Omega.{arith}
 use lib.ListN.{length, getD}
 use lib.Seq.{slice, slice-cons}
 use Rattle.meaning.specs.declared.Answer.{Answer}
@@ -23,10 +22,8 @@ use Rattle.rows_video.specs.Scalers.{Scaler}
 use Rattle.rows_video.proofs.Scalers.{scaler-granted}
 use Rattle.headers.specs.declared.Group.{Group}
 use Rattle.headers.specs.declared.Group.the-variants.{Target, Stage, Sample, Nothing}
-use Rattle.headers.specs.declared.Header.{Header}
-use Rattle.headers.specs.Headers.{headerOf, groupOf}
-use Rattle.headers.specs.Told.{Opens, Leads, Names}
-use Rattle.headers.proofs.Openings.{opens}
+use Rattle.headers.specs.Headers.{groupOf}
+use Rattle.headers.specs.Told.{Leads, Names}
 use Rattle.headers.proofs.Groups.{names}
 use Rattle.bodies.specs.Passes.{Passed, passed, answerOf, bodyFrom}
 use Rattle.bodies.proofs.Bodies.{else-stop}
@@ -53,10 +50,6 @@ always f = (λ g st. f g st .0, λ g st. f g st .1)
 
 -- ---- a header, and the words at hand
 
--- what it opens, and what that tells
-pub told : (h : ℕ) {x y : Header} → x ≡ headerOf h → x ≡ y → Opens h y
-told h e f = rw (← e, f) at (opens h)
-
 module _ (g : Terms) (i h : ℕ) (ws st : List ℕ) where
   pub head-refused : (r : ℕ) → headerReason h ≡ r → (r ≡ 0 → ⊥) → Comes (record { reason = r; place = i }) st (headed g i h ws st)
   unfolding headed
@@ -68,10 +61,7 @@ module _ (g : Terms) (i h : ℕ) (ws st : List ℕ) where
 
 -- ---- a setting, and the parameters behind it
 
--- one that names no group, and one that names a group
-pub unnamed : (s : ℕ) {G : Group} → G ≡ groupOf s → G ≡ Nothing → allowed s ≡ false
-unnamed s e z = rw (← e, z) at (names s)
-
+-- one that names a group
 pub leads : (s : ℕ) {G : Group} → G ≡ groupOf s → (G ≡ Nothing → ⊥) → Leads s G
 leads s {G} e some = by G (rw (← e) at (names s)) some
   where

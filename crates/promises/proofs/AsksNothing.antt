@@ -150,20 +150,19 @@ irangelda-read-listing-asks = calls.irangelda-read-listing-asks
 pub asks-nothing : AsksNothing read.Asked × AsksNothing write.Asked × AsksNothing list.Asked × AsksNothing read-listing.Asked
     × AsksNothing engine-open.Asked × AsksNothing engine-feed.Asked × AsksNothing engine-close.Asked
     × AsksNothing irangelda-read.Asked × AsksNothing irangelda-write.Asked × AsksNothing irangelda-list.Asked × AsksNothing irangelda-read-listing.Asked
-asks-nothing =
-    (
-      read-asks,
-      write-asks,
-      list-asks,
-      read-listing-asks,
-      engine-open-asks,
-      engine-feed-asks,
-      engine-close-asks,
-      irangelda-read-asks,
-      irangelda-write-asks,
-      irangelda-list-asks,
-      irangelda-read-listing-asks,
-    )
+asks-nothing = (
+  read-asks,
+  write-asks,
+  list-asks,
+  read-listing-asks,
+  engine-open-asks,
+  engine-feed-asks,
+  engine-close-asks,
+  irangelda-read-asks,
+  irangelda-write-asks,
+  irangelda-list-asks,
+  irangelda-read-listing-asks,
+)
 
 -- ==== What they are made of
 

@@ -95,9 +95,9 @@ module _ (st grants : List ℕ) where
             record {
               words = λ ws f fed. feeding-tells fed ∙ theory.refused-at-opening sw gs ws m .feed ∙ sym tells;
               closed = λ ws f fed c closed.
-                let again = theory.refused-at-opening sw gs ws m in
-                let told = closing-tells fed c closed in
-                (told .0 ∙ again .close ∙ sym tells, told .1 ∙ again .state);
+                  let again = theory.refused-at-opening sw gs ws m in
+                  let told = closing-tells fed c closed in
+                  (told .0 ∙ again .close ∙ sym tells, told .1 ∙ again .state);
             },
       )
 

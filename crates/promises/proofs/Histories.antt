@@ -4,10 +4,10 @@ use mathlib.Core.Path.{_≡_, refl, sym, ap, subst, _∙_}
 use mathlib.Core.Logic.{_≢_}
 use mathlib.Core.Bool.{Bool, true, false, _&&_, cond}
 use mathlib.Core.List.{List, [], _∷_, _++_}
-use Prim.Native.Nat.{ℕ, _+_, _%_, min, _≤_, _<_}
+use Prim.Native.Nat.{ℕ, _+_, _%_, min, _≤_}
 use native.Mathlib.Omega.{arith}
 use native.Mathlib.Decide.{ℕ-discrete}
-use lib.ListN.{length, take, length-set}
+use lib.ListN.{take}
 use lib.Seq.{length-take-le}
 use Rattle.laws.specs.Lists.{from}
 use Rattle.laws.proofs.Tests.{holds-of}
@@ -24,21 +24,20 @@ use Rattle.grants.specs.Kept.{Granting, Keeps}
 use Rattle.grants.proofs.Keeping.{kept-some}
 use Rattle.keeping.specs.Keeping.{Kept, keptAfter}
 use Rattle.keeping.proofs.Keeping.{keeps, begun-first}
-use Rattle.asking.specs.declared.Asked.{Asked}
 use Rattle.asking.specs.Asked.{capped}
 use Rattle.asking.proofs.Next.{again-setting}
-use Rattle.feeding.specs.Steps.{Standing, begun, closes, leaves}
-use Rattle.feeding.proofs.Steps.{Stands, begun-stands, step-stands, step-stays, closes-stands, leaves-stands}
+use Rattle.feeding.specs.Steps.{leaves}
+use Rattle.feeding.proofs.Steps.{Stands, begun-stands, step-stands, closes-stands, leaves-stands}
 use Rattle.feeding.proofs.Promises.{Opens, bad-state, bad-grants, opens, opens-as, refused-at-opening, feed-is, close-is, leaves-is}
 use Rattle.engine.specs.declared.Engine.{Engine}
 use Rattle.engine.specs.declared.Closed.{Closed}
 use Rattle.engine.specs.Bits.{marksOf, packed}
-use Rattle.engine.specs.Kept.{zeros, byteBounds, before, blank, openedWith, fedWith, opening, standing}
+use Rattle.engine.specs.Kept.{zeros, byteBounds, before, blank, openedWith, opening, standing}
 use Rattle.promises.proofs.Marks.{packed-length, state-packed}
 use Rattle.engine.proofs.Closing.{close-refused, stood}
 use Rattle.engine.proofs.Feeding.{fed-stays}
 use Rattle.promises.proofs.Standing.{Sized, fed-stands, Same, fed-same}
-use Rattle.promises.specs.Contracts.{Opening, Feeding, Closing, Fed, just-opened, and-fed, answered}
+use Rattle.promises.specs.Contracts.{Feeding, Closing, Fed, just-opened, and-fed, answered}
 
 -- what is kept of bounds that lie inside the room is the bounds
 byte-part : (x y : ℕ) → x ≤ y → y ≤ mostGrants → _≡_ {A = Part} (record { from = x % 256; to = min (y % 256) mostGrants }) (record { from = x; to = y })
@@ -181,16 +180,16 @@ module _ (st grants ws : List ℕ) (e : Engine) (h : Holds st grants ws e) where
   close-holds c closed =
       elim (ℕ-discrete (atOpening .reason) 0) [
         | yes z ↦ (
-            closed .0 ∙ closes-stands (termsOf grants) st ws (standing e) (h .stands z) ∙ sym (close-is st grants z ws),
-            closed .1 ∙ ap (leaves (standing e)) (h .opens ∙ held-by (opens-as st grants) z)
-            ∙ leaves-stands (termsOf grants) st ws (standing e) (h .stands z) ∙ sym (leaves-is st grants z ws),
-          )
+          closed .0 ∙ closes-stands (termsOf grants) st ws (standing e) (h .stands z) ∙ sym (close-is st grants z ws),
+          closed .1 ∙ ap (leaves (standing e)) (h .opens ∙ held-by (opens-as st grants) z)
+              ∙ leaves-stands (termsOf grants) st ws (standing e) (h .stands z) ∙ sym (leaves-is st grants z ws),
+        )
         | no n ↦
-          let same = h .refused n in
-          let m : e .reason ≢ 0 = λ z. n (sym (ap (λ (a : Answer). a .reason) same) ∙ z) in
-          let refusal = close-refused (standing e) (opening e) (stood (e .reason) (e .left) m) m refl in
-          let again = refused-at-opening st grants ws n in (
-            closed .0 ∙ sym (refusal .0) ∙ same ∙ sym (again .close),
-            closed .1 ∙ sym (refusal .1) ∙ h .opens ∙ none-by (opens-as st grants) n ∙ sym (again .state),
-          )
+            let same = h .refused n in
+            let m : e .reason ≢ 0 = λ z. n (sym (ap (λ (a : Answer). a .reason) same) ∙ z) in
+            let refusal = close-refused (standing e) (opening e) (stood (e .reason) (e .left) m) m refl in
+            let again = refused-at-opening st grants ws n in (
+              closed .0 ∙ sym (refusal .0) ∙ same ∙ sym (again .close),
+              closed .1 ∙ sym (refusal .1) ∙ h .opens ∙ none-by (opens-as st grants) n ∙ sym (again .state),
+            )
       ]

@@ -36,11 +36,11 @@ power-other k j n =
     elim (decLt k j) [
       | yes h ↦ ap (λ (x : ℕ). x % 2) (div-eq-of-lt (pow-lt h))
       | no h ↦
-        let d = k - j - 1 in
-        let e : k ≡ suc d + j = omega arith in
-        let one-more : 1 * 2 ^ suc d ≡ 2 ^ suc d = omega arith in
-        ap (λ (x : ℕ). bit (2 ^ x) j) e ∙ ap (λ (x : ℕ). x / 2 ^ j % 2) (pow-add 2 (suc d) j)
-        ∙ ap (λ (x : ℕ). x % 2) (shl-shr (2 ^ suc d) j ∙ sym one-more) ∙ shifted-even 1 d
+          let d = k - j - 1 in
+          let e : k ≡ suc d + j = omega arith in
+          let one-more : 1 * 2 ^ suc d ≡ 2 ^ suc d = omega arith in
+          ap (λ (x : ℕ). bit (2 ^ x) j) e ∙ ap (λ (x : ℕ). x / 2 ^ j % 2) (pow-add 2 (suc d) j)
+          ∙ ap (λ (x : ℕ). x % 2) (shl-shr (2 ^ suc d) j ∙ sym one-more) ∙ shifted-even 1 d
     ]
 
 -- a bit joined by `|` with one that is set, and with one that is not
@@ -71,8 +71,8 @@ module _ (ms : List ℕ) (four : length ms ≡ 4) (c : ℕ) (inside : c < cells)
   bit-other i n =
       elim (ℕ-discrete (i / 32) (c / 32)) [
         | yes e ↦
-          rw e (ap (λ (x : ℕ). bit x (i % 32)) (getD-set-same ms (c / 32) _ 0 room)
-          ∙ or-other (getD ms (c / 32) 0) (c % 32) (i % 32) (λ z. n (omega arith)))
+            rw e (ap (λ (x : ℕ). bit x (i % 32)) (getD-set-same ms (c / 32) _ 0 room)
+            ∙ or-other (getD ms (c / 32) 0) (c % 32) (i % 32) (λ z. n (omega arith)))
         | no e ↦ ap (λ (x : ℕ). bit x (i % 32)) (getD-set-other ms (c / 32) (i / 32) _ 0 e)
       ]
 

@@ -1,16 +1,14 @@
 -- What an engine keeps after a word stands for what the step makes of what stood before.
 -- Assumes nothing.
 use mathlib.Core.Path.{_≡_, refl, sym, ap, _∙_}
-use mathlib.Core.Logic.{_≢_}
 use mathlib.Core.Bool.{Bool, true, false, cond}
 use mathlib.Core.List.{List, [], _∷_, _++_}
 use Prim.Native.Nat.{ℕ, zero, suc, _+_, _<_}
 use native.Mathlib.Omega.{arith}
 use borrow.Author.Tests.{lt-ltb}
 use lib.Dec.{leb, ltb}
-use lib.ListN.{length, set, take, length-set}
+use lib.ListN.{length, set, length-set}
 use lib.Seq.{set-append-left}
-use Rattle.laws.specs.Lists.{All}
 use Rattle.meaning.specs.declared.Found.{Found}
 use Rattle.meaning.specs.declared.Found.the-variants.{At, Missing}
 use Rattle.meaning.specs.declared.Kind.{Kind}
@@ -20,14 +18,14 @@ use Rattle.meaning.specs.Registers.{cells, cell, findVideo}
 use Rattle.meaning.specs.Batch.{named}
 use Rattle.meaning.specs.Grants.{Terms}
 use Rattle.meaning.specs.State.{apply, applyAll, writeTo}
-use Rattle.meaning.specs.Positions.{nextKind, nextLeft, goes, carries, writeAt}
-use Rattle.meaning.specs.Answers.{engineFull, success, answer}
+use Rattle.meaning.specs.Positions.{goes, carries, writeAt}
+use Rattle.meaning.specs.Answers.{engineFull}
 use Rattle.meaning.specs.Reader.{judge}
 use Rattle.meaning.specs.Engine.{mostFed}
 use Rattle.meaning.proofs.Table.{Of}
 use Rattle.meaning.proofs.EachWrite.{Wide, found-3D, found-video}
 use Rattle.asking.specs.declared.Asked.{Asked}
-use Rattle.asking.specs.Asked.{kindFrom, underOf, cellOf, valueOf, passed, unlessStopped, askedIn}
+use Rattle.asking.specs.Asked.{kindFrom, cellOf, valueOf, passed, unlessStopped, askedIn}
 use Rattle.asking.proofs.Next.{next-again}
 use Rattle.feeding.specs.Steps as steps
 use Rattle.engine.specs.declared.Engine.{Engine}

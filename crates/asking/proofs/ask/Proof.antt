@@ -3,7 +3,8 @@
 use mathlib.Core.Path.{refl}
 use native.Mathlib.Omega.{arith}
 use borrow.Author.Needs.{needs}
-use Rattle.asking.proofs.Positions.{no-setting, leads, from-setting, from-zero, from-offset, at-position}
+use Rattle.headers.proofs.Groups.{unnamed}
+use Rattle.asking.proofs.Positions.{leads, from-setting, from-zero, from-offset, at-position}
 use Rattle.asking.proofs.Parts.{target-part}
 use Rattle.asking.proofs.ask.Statement.{statement}
 use Rattle.asking.proofs.ask.Tie as tie
@@ -28,7 +29,7 @@ at-setting-requires c κs = search needs
 
 returns-2 : tie.Need-returns-2
 returns-2 c g kept =
-    let other = no-setting _ (c .before .before .before .before .group-of .ensures) (c .before .before .enum-told .given .1) in
+    let other = unnamed _ (c .before .before .before .before .group-of .ensures) (c .before .before .enum-told .given .1) in
     at-position g _ (from-zero _ other (c .before .if2 .taken)) (omega arith) (c .at-setting .ensures g)
 
 at-video-requires : tie.Need-at-video-requires
@@ -36,7 +37,7 @@ at-video-requires c κs = search needs
 
 returns-3 : tie.Need-returns-3
 returns-3 c g kept =
-    let other = no-setting _ (c .before .before .before .before .group-of .ensures) (c .before .before .enum-told .given .1) in
+    let other = unnamed _ (c .before .before .before .before .group-of .ensures) (c .before .before .enum-told .given .1) in
     at-position g _ (from-offset _ other (c .before .if2 .left)) (omega arith) (c .at-video .ensures g kept)
 
 part-of-requires : tie.Need-part-of-requires

@@ -3,7 +3,7 @@
 use mathlib.Core.Path.{refl, _∙_}
 use borrow.Author.Needs.{needs}
 use Rattle.asking.proofs.Asking.{header-refused, header-taken, run-taken}
-use Rattle.asking.proofs.Offsets.{opened}
+use Rattle.headers.proofs.Openings.{told}
 use Rattle.asking.proofs.at_header.Statement.{statement}
 use Rattle.asking.proofs.at_header.Tie as tie
 
@@ -43,25 +43,25 @@ moved-on-requires-3 c κs = search needs
 returns : tie.Need-returns
 returns c g kind =
     let o = c .before .before in
-    let bad = opened _ (o .before .before .header-of .ensures) (o .opened .given .1) in
+    let bad = told _ (o .before .before .header-of .ensures) (o .opened .given .1) in
     c .refused .ensures ∙ header-refused g kind _ _ (bad .0) (bad .1)
 
 returns-2 : tie.Need-returns-2
 returns-2 c g kind =
     let h = c .before .before .before in
-    let fine = opened _ (h .header-of .ensures) (c .before .enum-told .given .1) in
+    let fine = told _ (h .header-of .ensures) (c .before .enum-told .given .1) in
     c .moved-on .ensures ∙ header-taken g kind _ (fine .0) (fine .1) (h .before .before .count .ensures) refl
 
 returns-3 : tie.Need-returns-3
 returns-3 c g kind =
     let h = c .before .before .before in
-    let run = opened _ (h .header-of .ensures) (c .before .enum-told2 .given .1) in
+    let run = told _ (h .header-of .ensures) (c .before .enum-told2 .given .1) in
     c .moved-on2 .ensures ∙ run-taken g kind _ run (h .before .before .count .ensures) (h .before .offset .ensures)
 
 returns-4 : tie.Need-returns-4
 returns-4 c g kind =
     let h = c .before .before .before in
-    let run = opened _ (h .header-of .ensures) (c .before .enum-told3 .given .1) in
+    let run = told _ (h .header-of .ensures) (c .before .enum-told3 .given .1) in
     c .moved-on3 .ensures ∙ run-taken g kind _ (run .0) (h .before .before .count .ensures) (h .before .offset .ensures)
 
 pub at-header-spec : {M : Type 1} → statement M

@@ -2,8 +2,9 @@
 -- Assumes nothing.
 use mathlib.Core.Path.{_∙_}
 use borrow.Author.Needs.{needs}
+use Rattle.headers.proofs.Groups.{unnamed}
 use Rattle.asking.proofs.Asking.{setting-refused, setting-taken}
-use Rattle.asking.proofs.Positions.{no-setting, leads}
+use Rattle.asking.proofs.Positions.{leads}
 use Rattle.asking.proofs.at_setting.Statement.{statement}
 use Rattle.asking.proofs.at_setting.Tie as tie
 
@@ -17,7 +18,7 @@ refused-requires : tie.Need-refused-requires
 refused-requires c κs = search needs
 
 returns : tie.Need-returns
-returns c g = c .refused .ensures ∙ setting-refused g _ _ (no-setting _ (c .before .before .before .group-of .ensures) (c .before .enum-told .given .1))
+returns c g = c .refused .ensures ∙ setting-refused g _ _ (unnamed _ (c .before .before .before .group-of .ensures) (c .before .enum-told .given .1))
 
 moved-on-requires : tie.Need-moved-on-requires
 moved-on-requires c κs = search needs

@@ -8,17 +8,18 @@ use Rattle.rows_video.specs.Scalers.{Scaler}
 use Rattle.rows_video.proofs.Scalers.{scaler-cells, scaler-role}
 use Rattle.headers.specs.Told.{Runs}
 use Rattle.asking.proofs.Asking.{video-none, video-at}
-use Rattle.asking.proofs.Offsets.{opened, single, none-refused, none-setting, in-row, found-at}
+use Rattle.headers.proofs.Openings.{told}
+use Rattle.asking.proofs.Offsets.{single, none-refused, none-setting, in-row, found-at}
 use Rattle.asking.proofs.Parts.{scaler-part}
 use Rattle.asking.proofs.at_video.Statement.{statement}
 use Rattle.asking.proofs.at_video.Tie as tie
 
 -- what the header tells where it opens a run: of 2208 to 2210, and of a scaler's registers
 as-overlay : (o : tie.After-opened) → Runs (single (o .before .before .before .offset .result)) 84 (o .opened .given .0 .0) 3
-as-overlay o = opened _ (o .before .before .header-of .ensures) (o .opened .given .1)
+as-overlay o = told _ (o .before .before .header-of .ensures) (o .opened .given .1)
 
 as-scaler : (o : tie.After-opened2) → let s = o .opened2 .given .0 .0 in Runs (single (o .before .before .before .offset .result)) (s .base .0) (s .index) 7 × Scaler (s .base .0) (s .role)
-as-scaler o = opened _ (o .before .before .header-of .ensures) (o .opened2 .given .1)
+as-scaler o = told _ (o .before .before .header-of .ensures) (o .opened2 .given .1)
 
 offset-requires : tie.Need-offset-requires
 offset-requires c κs = search needs
@@ -73,13 +74,13 @@ for-video-requires-2 c κs = offset-small _ (c .before .before .before .before .
 returns : tie.Need-returns
 returns c g kept =
     let h = c .before .before .before in
-    let bad = opened _ (h .header-of .ensures) (c .before .enum-told .given .1) in
+    let bad = told _ (h .header-of .ensures) (c .before .enum-told .given .1) in
     c .refused .ensures ∙ video-none g _ _ _ (none-refused _ (h .before .offset .ensures) (bad .0) (bad .1))
 
 returns-2 : tie.Need-returns-2
 returns-2 c g kept =
     let h = c .before .before .before in
-    let fine = opened _ (h .header-of .ensures) (c .before .enum-told2 .given .1) in
+    let fine = told _ (h .header-of .ensures) (c .before .enum-told2 .given .1) in
     c .refused2 .ensures ∙ video-none g _ _ _ (none-setting _ (h .before .offset .ensures) (fine .1))
 
 returns-3 : tie.Need-returns-3

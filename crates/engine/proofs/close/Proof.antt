@@ -1,3 +1,5 @@
+-- By the reason.
+-- Assumes nothing.
 use Rattle.engine.specs.Kept.{standing, opening}
 use Rattle.engine.proofs.Closing.{close-refused, close-whole}
 use borrow.Author.Needs.{needs}

@@ -1,3 +1,5 @@
+-- By the two tests.
+-- Assumes nothing.
 use Rattle.engine.proofs.Closing.{stood, ends, none}
 use Rattle.engine.proofs.closing_reason.Statement.{statement}
 use Rattle.engine.proofs.closing_reason.Tie as tie

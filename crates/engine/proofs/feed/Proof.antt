@@ -1,25 +1,19 @@
+-- By the tests, in their order.
+-- Assumes nothing.
 use Rattle.engine.proofs.Feeding.{fed-stays, fed-full, fed-refused, fed-unstored, fed-stored}
 use borrow.Author.Needs.{needs}
 use Rattle.engine.proofs.feed.Statement.{statement}
 use Rattle.engine.proofs.feed.Tie as tie
-use Rattle.engine.proofs.feed.Reads as reads
-use Rattle.engine.proofs.feed.Lts as lts
-use Rattle.asking.proofs.ask.Reads as ask-reads
-use Rattle.engine.proofs.set_mark.Reads as set-mark-reads
 
--- src/lib.rt:184:9
 returns : tie.Need-returns
 returns c = λ g k. fed-stays g (c .before .args .t1) (c .before .args .word) (c .if1 .taken)
 
--- src/lib.rt:188:9
 returns-2 : tie.Need-returns-2
 returns-2 c = λ g k. fed-full g (c .before .before .args .t1) (c .before .before .args .word) (c .before .if1 .left) (c .if2 .taken)
 
--- src/lib.rt:190:9
 ask-requires : tie.Need-ask-requires
 ask-requires c κs = search needs
 
--- src/lib.rt:200:9
 returns-3 : tie.Need-returns-3
 returns-3 c =
     λ g k.
@@ -27,11 +21,9 @@ returns-3 c =
     let w = c .before .before .before .before .before .before .before .before .before .args .word in
     fed-refused g e w (c .before .before .before .before .before .before .before .before .if1 .left) (c .before .before .before .before .before .before .before .if2 .left) (c .before .before .ask .ensures g k) (c .if3 .taken)
 
--- src/lib.rt:202:5
 add-engine : tie.Need-add-engine
 add-engine c = search needs
 
--- src/lib.rt:207:9
 returns-4 : tie.Need-returns-4
 returns-4 c =
     λ g k.
@@ -39,19 +31,15 @@ returns-4 c =
     let w = c .before .before .before .before .before .before .before .before .before .before .args .word in
     fed-unstored g e w (c .before .before .before .before .before .before .before .before .before .if1 .left) (c .before .before .before .before .before .before .before .before .if2 .left) (c .before .before .before .ask .ensures g k) (c .before .if3 .left) (c .if4 .taken)
 
--- src/lib.rt:209:5
 mul-engine : tie.Need-mul-engine
 mul-engine c = search needs
 
--- src/lib.rt:209:5
 element-write-engine : tie.Need-element-write-engine
 element-write-engine c = search needs
 
--- src/lib.rt:210:5
 set-mark-requires : tie.Need-set-mark-requires
 set-mark-requires c κs = search needs
 
--- src/lib.rt:180:1
 returns-5 : tie.Need-returns-5
 returns-5 c =
     λ g k.

@@ -7,9 +7,6 @@ use Rattle.meaning.specs.Registers.{cells}
 use Rattle.engine.proofs.Closing.{Laid, none-laid, one-laid, all-laid}
 use Rattle.engine.proofs.lay.Statement.{statement}
 use Rattle.engine.proofs.lay.Tie as tie
-use Rattle.engine.proofs.lay.Reads as reads
-use Rattle.engine.proofs.lay.Lts as lts
-use Rattle.engine.proofs.mark_in.Reads as mark-in-reads
 
 abbrev Inv-loop : tie.InvT-loop
 Inv-loop values marks state₀ all c₀ state c = (c ≤ cells) × Laid values marks state c
@@ -17,58 +14,45 @@ Inv-loop values marks state₀ all c₀ state c = (c ≤ cells) × Laid values m
 abbrev μ-loop : tie.MeasureT-loop
 μ-loop values marks state₀ all c₀ state c = cells - c
 
--- src/lib.rt:194:5
 loop-holds : tie.Need-loop-holds Inv-loop μ-loop
 loop-holds c = let a = c .before .args in (omega arith, none-laid (a .values .now) (a .marks .now) (a .state .now) (omega arith))
 
--- src/lib.rt:195:20
 mul-state : tie.Need-mul-state Inv-loop μ-loop
 mul-state c = omega arith
 
--- src/lib.rt:195:20
 shared-slice-read-state : tie.Need-shared-slice-read-state Inv-loop μ-loop
 shared-slice-read-state c = omega arith
 
--- src/lib.rt:195:9
 mul-state-2 : tie.Need-mul-state-2 Inv-loop μ-loop
 mul-state-2 c = omega arith
 
--- src/lib.rt:195:9
 element-write-state : tie.Need-element-write-state Inv-loop μ-loop
 element-write-state c = omega arith
 
--- src/lib.rt:196:28
 mark-in-requires : tie.Need-mark-in-requires Inv-loop μ-loop
 mark-in-requires c κs = omega arith
 
--- src/lib.rt:196:15
 add-state : tie.Need-add-state Inv-loop μ-loop
 add-state c = omega arith
 
--- src/lib.rt:196:9
 mul-state-3 : tie.Need-mul-state-3 Inv-loop μ-loop
 mul-state-3 c = omega arith
 
--- src/lib.rt:196:9
 element-write-state-2 : tie.Need-element-write-state-2 Inv-loop μ-loop
 element-write-state-2 c = omega arith
 
--- src/lib.rt:197:9
 add-c : tie.Need-add-c Inv-loop μ-loop
 add-c c = omega arith
 
--- src/lib.rt:194:5
 loop-less : tie.Need-loop-less Inv-loop μ-loop
 loop-less c = omega arith
 
--- src/lib.rt:194:5
 loop-again : tie.Need-loop-again Inv-loop μ-loop
 loop-again c =
     let l = c .before .before .before in
     let a = l .before .before .args in
     (omega arith, one-laid (a .values .now) (a .marks .now) (l .loop .state) (l .loop .c) (l .loop .inv .1) (omega arith) refl (c .mark-in .ensures))
 
--- src/lib.rt:187:1
 returns : tie.Need-returns Inv-loop μ-loop
 returns c =
     let l = c .before in

@@ -58,7 +58,7 @@ loop-again c =
       omega arith,
       (
         one-copied (take cells ws) (l .loop .values) i (v .value .result) (omega (arith, length-take-le cells ws (omega arith)))
-        (v .value .ensures ∙ sym (getD-take cells ws i 0 (omega arith))) (l .loop .inv .1 .0),
+            (v .value .ensures ∙ sym (getD-take cells ws i 0 (omega arith))) (l .loop .inv .1 .0),
         one-loaded ws i (a .marks .now) (l .loop .marks) (c .before .mark .ensures) (l .loop .inv .1 .1) (c .load-mark .ensures),
       ),
     )

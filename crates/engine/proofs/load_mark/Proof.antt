@@ -1,20 +1,16 @@
+-- A mark that is not 0 is set.
+-- Assumes nothing.
 use Rattle.engine.proofs.Bits.{is-marked}
 use borrow.Author.Needs.{needs}
 use Rattle.engine.proofs.load_mark.Statement.{statement}
 use Rattle.engine.proofs.load_mark.Tie as tie
-use Rattle.engine.proofs.load_mark.Reads as reads
-use Rattle.engine.proofs.load_mark.Lts as lts
-use Rattle.engine.proofs.set_mark.Reads as set-mark-reads
 
--- src/lib.rt:79:9
 returns : tie.Need-returns
 returns c = search needs
 
--- src/lib.rt:81:5
 set-mark-requires : tie.Need-set-mark-requires
 set-mark-requires c κs = search needs
 
--- src/lib.rt:74:1
 returns-2 : tie.Need-returns-2
 returns-2 c = rw (is-marked (c .before .before .before .args .mark) (c .before .before .if1 .left)) (c .set-mark .ensures)
 

@@ -1,3 +1,5 @@
+-- By the two tests, in their order.
+-- Assumes nothing.
 use borrow.Author.Tests.{not-true, not-false}
 use Rattle.engine.proofs.opening_reason.Statement.{statement}
 use Rattle.engine.proofs.opening_reason.Tie as tie

@@ -1,3 +1,5 @@
+-- One bit is set.
+-- Assumes nothing.
 use Prim.Native.Nat.{_%_}
 use native.Mathlib.Omega.{arith}
 use Rattle.engine.specs.Bits.{withMark}
@@ -5,34 +7,25 @@ use Rattle.engine.proofs.Bits.{one-shifted}
 use borrow.Author.Needs.{needs}
 use Rattle.engine.proofs.set_mark.Statement.{statement}
 use Rattle.engine.proofs.set_mark.Tie as tie
-use Rattle.engine.proofs.set_mark.Reads as reads
-use Rattle.engine.proofs.set_mark.Lts as lts
 
--- src/lib.rt:70:16
 mul-marks : tie.Need-mul-marks
 mul-marks c = search needs
 
--- src/lib.rt:70:16
 element-copy-out-marks : tie.Need-element-copy-out-marks
 element-copy-out-marks c = search needs
 
--- src/lib.rt:70:35
 cast-marks : tie.Need-cast-marks
 cast-marks c = search needs
 
--- src/lib.rt:70:27
 shl-marks : tie.Need-shl-marks
 shl-marks c = search needs
 
--- src/lib.rt:70:5
 mul-marks-2 : tie.Need-mul-marks-2
 mul-marks-2 c = search needs
 
--- src/lib.rt:70:5
 element-write-marks : tie.Need-element-write-marks
 element-write-marks c = search needs
 
--- src/lib.rt:65:1
 returns : tie.Need-returns
 unfolding withMark
 returns c = let k = c .before .args .cell % 32 in rw (one-shifted k (omega arith))

@@ -6,7 +6,8 @@ use borrow.Author.Needs.{needs}
 use Rattle.meaning.specs.Words.{wordsOf}
 use Rattle.headers.specs.Told.{Leads}
 use Rattle.bodies.proofs.Bodies.{among-words}
-use Rattle.packets.proofs.Headed.{each, unnamed, leads, settled, unsettled, part-inside, target-part}
+use Rattle.headers.proofs.Groups.{unnamed}
+use Rattle.packets.proofs.Headed.{each, leads, settled, unsettled, part-inside, target-part}
 use Rattle.packets.proofs.read_3d.Statement.{statement}
 use Rattle.packets.proofs.read_3d.Tie as tie
 

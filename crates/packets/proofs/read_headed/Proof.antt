@@ -6,7 +6,8 @@ use lib.Seq.{slice}
 use borrow.Author.Needs.{needs}
 use Rattle.meaning.specs.Words.{wordsOf}
 use Rattle.rows_video.proofs.Scalers.{is-scaler, scaler-role}
-use Rattle.packets.proofs.Headed.{each, told, head-refused, head-passed, scaler-part, part-inside}
+use Rattle.headers.proofs.Openings.{told}
+use Rattle.packets.proofs.Headed.{each, head-refused, head-passed, scaler-part, part-inside}
 use Rattle.packets.proofs.read_headed.Statement.{statement}
 use Rattle.packets.proofs.read_headed.Tie as tie
 

@@ -10,7 +10,8 @@ use Rattle.meaning.specs.Answers.{success}
 use Rattle.headers.specs.Told.{Leads}
 use Rattle.bodies.specs.Passes.{passed}
 use Rattle.bodies.proofs.Bodies.{body-done, among-words}
-use Rattle.packets.proofs.Headed.{comes, always, unnamed, leads, settled, unsettled}
+use Rattle.headers.proofs.Groups.{unnamed}
+use Rattle.packets.proofs.Headed.{comes, always, leads, settled, unsettled}
 use Rattle.packets.proofs.read_lone.Statement.{statement}
 use Rattle.packets.proofs.read_lone.Tie as tie
 
