@@ -18,7 +18,7 @@ use super::tally::check_opened;
 use engine::Closed;
 
 // The most words that are taken.
-pub(super) const MOST: usize = 0xffffffff;
+const MOST: usize = 0xffffffff;
 
 // No list of the desk: every word of it is 0.
 const NOTHING: usize = 9;

@@ -3,3 +3,4 @@ pub mod Answers
 pub mod Steps
 pub mod Promises
 pub mod Gives
+pub mod Examples
