@@ -3,6 +3,7 @@ use super::desk::BATCH;
 use super::desk::Desk;
 use super::desk::GRANTS;
 use super::desk::LEFT;
+use super::desk::RIGHT;
 use super::desk::STATE;
 use super::desk::at;
 use super::desk::copy;
@@ -14,12 +15,13 @@ use super::desk::minus;
 use super::desk::put;
 use super::desk::shifted;
 use super::desk::sum;
+use super::fed::feed_words;
 use super::making::change_word;
 use super::making::damage;
 use super::making::some_batch;
 use super::making::some_grants;
 use super::making::some_state;
-use super::tally::check_late;
+use super::second::read;
 use super::tally::check_read;
 use super::tally::check_write;
 use super::tally::end_family;
@@ -65,7 +67,9 @@ fn late_case(desk: &mut Desk, seed: u32) {
     some_grants(desk, dice(seed, 1));
     some_state(desk, dice(seed, 2));
     some_batch(desk, 2, dice(seed, 3));
-    check_late(desk, 0xffffffff - seed % 32);
+    copy(desk, STATE, RIGHT);
+    let told = read(desk);
+    feed_words(desk, told, 0xffffffff - seed % 32);
 }
 
 pub(super) fn late(desk: &mut Desk, name: &[u8], cases: u32) {

@@ -14,7 +14,6 @@ use super::desk::plus;
 use super::tally::CLOSED;
 use super::tally::FED;
 use super::tally::check_answer;
-use super::tally::check_opened;
 use engine::Closed;
 
 // The most words that are taken.
@@ -23,55 +22,32 @@ const MOST: usize = 0xffffffff;
 // No list of the desk: every word of it is 0.
 const NOTHING: usize = 9;
 
-// The reader refuses the state or the grants, so that no word is looked at.
-fn never_opened(told: u64) -> bool {
-    told % 256 == 1 || told % 256 == 2
-}
-
-// The reader refuses a word.
-fn refused(told: u64) -> bool {
-    told % 256 >= 3 && told % 256 <= 9
-}
-
-// How many words of the batch are taken: as many as stand before the one that the reader refuses, and as there is room for.
-fn taken(told: u64, before: usize) -> usize {
-    let room = minus(MOST, before);
+// What the engine has to answer after n words of a batch, on which the reader answers as told: what it was told at opening; the
+// refusal of a word among them, if there was room for that word; where there is no room for them, 23; else that reason.
+fn due(told: u64, before: usize, n: usize, reason: u32) -> u64 {
+    let found = (told % 256) as u32;
     let place = (told >> 8) as usize;
-    if refused(told) && place < room {
-        place
-    } else {
-        room
+    let room = minus(MOST, before);
+    if found == 1 || found == 2 {
+        return told;
     }
-}
-
-// What the first word is answered that is not taken.
-fn stopped(told: u64, before: usize) -> u64 {
-    let place = plus(before, taken(told, before));
-    if place < MOST {
-        answer((told % 256) as u32, place)
+    if found >= 3 && found <= 9 && place < n && place < room {
+        return answer(found, plus(before, place));
+    }
+    if n <= room {
+        answer(reason, plus(before, n))
     } else {
         answer(23, MOST)
     }
 }
 
-// What the engine has to answer after n words of the batch, with that reason where all are taken.
-fn due(told: u64, before: usize, n: usize, reason: u32) -> u64 {
-    if never_opened(told) {
-        return told;
+// The state that closing with that answer has to hand back.
+fn state_due(closed: u64) -> usize {
+    match closed % 256 {
+        0 => RIGHT,
+        1..=2 => NOTHING,
+        _ => STATE,
     }
-    if n <= taken(told, before) {
-        answer(reason, plus(before, n))
-    } else {
-        stopped(told, before)
-    }
-}
-
-// The state that has to be handed back.
-fn state_due(told: u64, closed: u64) -> usize {
-    if never_opened(told) {
-        return NOTHING;
-    }
-    if closed % 256 == 0 { RIGHT } else { STATE }
 }
 
 fn same_state(desk: &Desk, list: usize, closed: Closed) -> bool {
@@ -82,29 +58,20 @@ fn same_state(desk: &Desk, list: usize, closed: Closed) -> bool {
     apart == 0
 }
 
-// The state that is handed back, and the answer to closing.
 fn check_closed(desk: &mut Desk, closed: Closed, told: u64, before: usize) {
     let seen = &*desk;
     let end = due(told, before, len(seen, BATCH), (told % 256) as u32);
     let first = answer(closed.answer.reason, closed.answer.place);
-    let same = same_state(seen, state_due(told, end), closed);
+    let same = same_state(seen, state_due(end), closed);
     check_answer(desk, CLOSED, first, end, same);
-}
-
-// An engine that was not opened has taken nothing.
-fn taken_before(told: u64, before: u32) -> u32 {
-    if never_opened(told) { 0 } else { before }
 }
 
 // Opens an engine with the state and the grants and feeds it the batch, on which the second reader answers as told.
 pub(super) fn feed_words(desk: &mut Desk, told: u64, before: u32) {
     let mut engine = open_first(desk);
-    check_opened(
-        desk,
-        answer(engine.reason, engine.place as usize),
-        due(told, 0, 0, 0),
-    );
-    engine.place = taken_before(told, before);
+    let opened = answer(engine.reason, engine.place as usize);
+    check_answer(desk, FED, opened, due(told, 0, 0, 0), true);
+    engine.place = before;
     let n = len(desk, BATCH);
     for i in 0..n {
         engine = engine::feed(engine, at(desk, BATCH, i));

@@ -29,7 +29,7 @@ const CALLS: usize = 200;
 
 const DIFFERENCES: usize = 201;
 
-const WORDS: usize = 202;
+const FEEDS: usize = 202;
 
 // The columns of the reasons' table behind READ and WRITE.
 pub(super) const FED: usize = 2;
@@ -75,29 +75,19 @@ fn agree(desk: &Desk, first: u64, other: u64) -> bool {
     kept && first == other && same(desk, LEFT, RIGHT)
 }
 
-// The line of a reason: 23 stands behind 12.
-fn reason_line(told: u64) -> usize {
-    if told % 256 == 23 {
+// Counts an answer in the line of its reason: 23 stands behind 12.
+fn count_reason(desk: &mut Desk, told: u64, column: usize) {
+    let line = if told % 256 == 23 {
         13
     } else {
         (told % 16) as usize
-    }
+    };
+    add_one(desk, plus(line << 2, column));
 }
 
-fn count_reason(desk: &mut Desk, told: u64, column: usize) {
-    add_one(desk, plus(reason_line(told) << 2, column));
-}
-
-// An engine's answer to opening, beside the one that is due;
-pub(super) fn check_opened(desk: &mut Desk, first: u64, due: u64) {
-    if first != due {
-        note_difference(desk, first, due);
-    }
-}
-
-// to a word, and to closing, with a state that is right or not.
+// An engine's answer beside the one that is due: to opening, to a word, or to closing, with a state that is right or not.
 pub(super) fn check_answer(desk: &mut Desk, column: usize, first: u64, due: u64, same: bool) {
-    add_one(desk, WORDS);
+    add_one(desk, FEEDS);
     count_reason(desk, first, column);
     if first != due || !same {
         note_difference(desk, first, due);
@@ -130,13 +120,6 @@ pub(super) fn check_read(desk: &mut Desk) -> u64 {
     told
 }
 
-// The batch fed into an engine that has taken so many words already.
-pub(super) fn check_late(desk: &mut Desk, before: u32) {
-    copy(desk, STATE, RIGHT);
-    let told = second::read(desk);
-    feed_words(desk, told, before);
-}
-
 // The state written, into a buffer of so many bytes.
 pub(super) fn check_write(desk: &mut Desk, bytes: usize) -> u64 {
     fill(desk, BEFORE, 0x5a, 0);
@@ -146,7 +129,7 @@ pub(super) fn check_write(desk: &mut Desk, bytes: usize) -> u64 {
 fn tell_family(desk: &Desk, name: &[u8]) {
     io::write_all(STDOUT_FILENO, name);
     say_count(desk, b" calls=", CALLS);
-    say_count(desk, b" words fed and closings=", WORDS);
+    say_count(desk, b" openings, words and closings=", FEEDS);
     say_count(desk, b" differences so far=", DIFFERENCES);
     end_line();
 }
@@ -154,7 +137,7 @@ fn tell_family(desk: &Desk, name: &[u8]) {
 pub(super) fn end_family(desk: &mut Desk, name: &[u8]) {
     tell_family(desk, name);
     put(desk, COUNTS, CALLS, 0);
-    put(desk, COUNTS, WORDS, 0);
+    put(desk, COUNTS, FEEDS, 0);
 }
 
 // The line of a value: four for 01.00, one for all stages, three for all samples, and one for each video register.
@@ -187,7 +170,7 @@ fn tell_table(desk: &Desk, name: &[u8], start: usize, end: usize) {
 pub(super) fn tell(desk: &Desk) {
     tell_table(
         desk,
-        b"reasons 0 to 12 and 23, a line each: reads, writes, words fed, closings\n",
+        b"reasons 0 to 12 and 23, a line each: reads, writes, openings and words fed, closings\n",
         0,
         56,
     );

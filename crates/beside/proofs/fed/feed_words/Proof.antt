@@ -4,10 +4,10 @@ use Rattle.beside.proofs.fed.feed_words.Statement.{statement}
 use Rattle.beside.proofs.fed.feed_words.Tie as tie
 
 abbrev Inv-loop : tie.InvT-loop
-Inv-loop desk₀ told before engine₀ n i₀ desk engine i = Unit
+Inv-loop desk₀ told before engine₀ opened n i₀ desk engine i = Unit
 
 abbrev μ-loop : tie.MeasureT-loop
-μ-loop desk₀ told before engine₀ n i₀ desk engine i = n - i
+μ-loop desk₀ told before engine₀ opened n i₀ desk engine i = n - i
 
 open-first-requires : tie.Need-open-first-requires Inv-loop μ-loop
 open-first-requires c κs = search needs
@@ -21,11 +21,8 @@ answer-requires c κs = search needs
 due-requires : tie.Need-due-requires Inv-loop μ-loop
 due-requires c κs = search needs
 
-check-opened-requires : tie.Need-check-opened-requires Inv-loop μ-loop
-check-opened-requires c κs = search needs
-
-taken-before-requires : tie.Need-taken-before-requires Inv-loop μ-loop
-taken-before-requires c κs = search needs
+check-answer-requires : tie.Need-check-answer-requires Inv-loop μ-loop
+check-answer-requires c κs = search needs
 
 len-requires : tie.Need-len-requires Inv-loop μ-loop
 len-requires c κs = search needs
@@ -51,8 +48,8 @@ plus-requires c κs = search needs
 due-requires-2 : tie.Need-due-requires-2 Inv-loop μ-loop
 due-requires-2 c κs = search needs
 
-check-answer-requires : tie.Need-check-answer-requires Inv-loop μ-loop
-check-answer-requires c κs = search needs
+check-answer-requires-2 : tie.Need-check-answer-requires-2 Inv-loop μ-loop
+check-answer-requires-2 c κs = search needs
 
 add-i : tie.Need-add-i Inv-loop μ-loop
 add-i c = search needs
@@ -82,8 +79,7 @@ feed-words-spec =
     cast-answer
     answer-requires
     due-requires
-    check-opened-requires
-    taken-before-requires
+    check-answer-requires
     len-requires
     loop-holds
     at-requires
@@ -92,7 +88,7 @@ feed-words-spec =
     answer-requires-2
     plus-requires
     due-requires-2
-    check-answer-requires
+    check-answer-requires-2
     add-i
     loop-less
     loop-again
