@@ -88,17 +88,13 @@ pub(super) fn first(desk: &mut Desk, kind: usize, bytes: usize) -> u64 {
     told
 }
 
-fn open_with(state: &[u8], s: usize, grants: &[u8], g: usize) -> Engine {
-    engine::open(part(state, s), part(grants, g))
-}
-
 // Opens an engine with the state and the grants.
 pub(super) fn open_first(desk: &Desk) -> Engine {
     let more = len(desk, BATCH);
-    open_with(
-        &desk[STATE],
-        lent(desk, STATE, more),
-        &desk[GRANTS],
-        lent(desk, GRANTS, more),
+    let state: &[u8] = &desk[STATE];
+    let grants: &[u8] = &desk[GRANTS];
+    engine::open(
+        part(state, lent(desk, STATE, more)),
+        part(grants, lent(desk, GRANTS, more)),
     )
 }

@@ -3,7 +3,6 @@ use super::desk::BATCH;
 use super::desk::Desk;
 use super::desk::GRANTS;
 use super::desk::LEFT;
-use super::desk::RIGHT;
 use super::desk::STATE;
 use super::desk::at;
 use super::desk::copy;
@@ -15,13 +14,11 @@ use super::desk::minus;
 use super::desk::put;
 use super::desk::shifted;
 use super::desk::sum;
-use super::fed::feed_words;
 use super::making::change_word;
 use super::making::damage;
 use super::making::some_batch;
 use super::making::some_grants;
 use super::making::some_state;
-use super::second::read;
 use super::tally::check_read;
 use super::tally::check_write;
 use super::tally::end_family;
@@ -58,23 +55,6 @@ fn made_up_case(desk: &mut Desk, bad: u32, how: u32, seed: u32) {
 pub(super) fn made_up(desk: &mut Desk, name: &[u8], bad: u32, how: u32, cases: u32) {
     for k in 0..cases {
         made_up_case(desk, bad, how, dice(sum(bad, how) << 20, k));
-    }
-    end_family(desk, name);
-}
-
-// A made-up batch for an engine that takes only so many words more, fewer than 32.
-fn late_case(desk: &mut Desk, seed: u32) {
-    some_grants(desk, dice(seed, 1));
-    some_state(desk, dice(seed, 2));
-    some_batch(desk, 2, dice(seed, 3));
-    copy(desk, STATE, RIGHT);
-    let told = read(desk);
-    feed_words(desk, told, 0xffffffff - seed % 32);
-}
-
-pub(super) fn late(desk: &mut Desk, name: &[u8], cases: u32) {
-    for k in 0..cases {
-        late_case(desk, dice(7, k));
     }
     end_family(desk, name);
 }

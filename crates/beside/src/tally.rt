@@ -12,14 +12,17 @@ use super::desk::RIGHT;
 use super::desk::STATE;
 use super::desk::at;
 use super::desk::copy;
+use super::desk::dice;
 use super::desk::fill;
 use super::desk::len;
 use super::desk::minus;
+use super::desk::narrow;
 use super::desk::plus;
 use super::desk::put;
 use super::desk::same;
 use super::desk::sum;
 use super::fed::feed_words;
+use super::fed::nearly_full;
 use super::second;
 use libc::STDOUT_FILENO;
 
@@ -77,19 +80,15 @@ fn agree(desk: &Desk, first: u64, other: u64) -> bool {
 
 // Counts an answer in the line of its reason: 23 stands behind 12.
 fn count_reason(desk: &mut Desk, told: u64, column: usize) {
-    let line = if told % 256 == 23 {
-        13
-    } else {
-        (told % 16) as usize
-    };
-    add_one(desk, plus(line << 2, column));
+    let reason = (told % 256) as usize;
+    add_one(desk, plus(minus(reason, reason / 16 * 10) << 2, column));
 }
 
-// An engine's answer beside the one that is due: to opening, to a word, or to closing, with a state that is right or not.
-pub(super) fn check_answer(desk: &mut Desk, column: usize, first: u64, due: u64, same: bool) {
+// An engine's answer, to opening, to a word or to closing, beside the one that is due.
+pub(super) fn check_answer(desk: &mut Desk, column: usize, first: u64, due: u64) {
     add_one(desk, FEEDS);
     count_reason(desk, first, column);
-    if first != due || !same {
+    if first != due {
         note_difference(desk, first, due);
     }
 }
@@ -115,8 +114,10 @@ pub(super) fn check_read(desk: &mut Desk) -> u64 {
     copy(desk, STATE, BEFORE);
     let seen = &*desk;
     let bytes = plus(len(seen, STATE) << 2, len(seen, BATCH) % 4);
+    let thrown = dice(at(seen, BATCH, 1), narrow(bytes));
     let told = check(desk, READ, bytes);
     feed_words(desk, told, 0);
+    feed_words(desk, told, nearly_full(told, thrown));
     told
 }
 

@@ -1,13 +1,13 @@
 use Prim.Native.Nat.{_-_}
 use borrow.Author.Needs.{needs}
-use Rattle.beside.proofs.fed.same_state.Statement.{statement}
-use Rattle.beside.proofs.fed.same_state.Tie as tie
+use Rattle.beside.proofs.fed.with_state.Statement.{statement}
+use Rattle.beside.proofs.fed.with_state.Tie as tie
 
 abbrev Inv-loop : tie.InvT-loop
-Inv-loop desk list closed apart₀ i₀ apart i = Unit
+Inv-loop desk list due closed apart₀ i₀ apart i = Unit
 
 abbrev μ-loop : tie.MeasureT-loop
-μ-loop desk list closed apart₀ i₀ apart i = 202 - i
+μ-loop desk list due closed apart₀ i₀ apart i = 202 - i
 
 loop-holds : tie.Need-loop-holds Inv-loop μ-loop
 loop-holds c = search needs
@@ -33,8 +33,11 @@ loop-again c = search needs
 returns : tie.Need-returns Inv-loop μ-loop
 returns c = search needs
 
-pub same-state-spec : {M : Type 1} → statement M
-same-state-spec =
+returns-2 : tie.Need-returns-2 Inv-loop μ-loop
+returns-2 c = search needs
+
+pub with-state-spec : {M : Type 1} → statement M
+with-state-spec =
     tie.close
     (tie.spec
     Inv-loop
@@ -46,4 +49,5 @@ same-state-spec =
     add-i
     loop-less
     loop-again
-    returns)
+    returns
+    returns-2)
