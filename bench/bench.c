@@ -1,5 +1,5 @@
 /*
- * Calls one of the four calls a given number of times on one of the bench's inputs: bench WHO LINE TIMES. WHO is `ours` (the
+ * Calls one of the five calls a given number of times on one of the bench's inputs: bench WHO LINE TIMES. WHO is `ours` (the
  * archive), `careful` (tests/reference/careful.c) or `nothing` (functions that return at once, so that what the loop itself needs can
  * be taken off). bench/run counts the instructions from outside.
  */
@@ -14,6 +14,7 @@ typedef uint64_t reads(const uint8_t *, size_t, const uint8_t *, size_t, uint8_t
 typedef uint64_t writes(const uint8_t *, size_t, const uint8_t *, size_t, uint8_t *, size_t);
 typedef uint64_t lists(const uint8_t *, size_t, uint8_t *, size_t);
 typedef uint64_t reads_listing(const uint8_t *, size_t, uint8_t *, size_t);
+typedef uint64_t names_grant(const uint8_t *, size_t, const uint8_t *, size_t, uint32_t);
 
 struct calls {
     const char *who;
@@ -21,15 +22,16 @@ struct calls {
     writes *write;
     lists *list;
     reads_listing *read_listing;
+    names_grant *which_grant;
 };
 
 static const struct calls all_calls[] = {
-    { "ours", irangelda_read, irangelda_write, irangelda_list, irangelda_read_listing },
-    { "careful", careful_read, careful_write, careful_list, careful_read_listing },
-    { "nothing", nothing_of_six, nothing_of_six, nothing_of_four, nothing_of_four }
+    { "ours", irangelda_read, irangelda_write, irangelda_list, irangelda_read_listing, irangelda_which_grant },
+    { "careful", careful_read, careful_write, careful_list, careful_read_listing, careful_which_grant },
+    { "nothing", nothing_of_six, nothing_of_six, nothing_of_four, nothing_of_four, nothing_of_five }
 };
 
-enum { CELLS = IRANGELDA_CELLS, LONG_WORDS = 16384 };
+enum { CELLS = IRANGELDA_CELLS, TARGET_CELL = 1, LONG_WORDS = 16384 };
 
 /* Aligned alike in every build, so that a count does not hang on where the linker puts things. */
 #define LENT _Alignas(64) static
@@ -239,7 +241,7 @@ static void add_long_video(void)
 
 /* ---- the lines of the table */
 
-enum kind { READ, WRITE, LIST, READ_LISTING };
+enum kind { READ, WRITE, LIST, READ_LISTING, WHICH_GRANT };
 
 struct line {
     const char *name;
@@ -298,11 +300,34 @@ static void full_with_64_below(void)
 }
 
 /* Only the target's address, as K1 leaves it. */
+static void k1_state(void)
+{
+    put_word(first_state, TARGET_CELL, value_for(TARGET_CELL));
+    put_word(first_state, CELLS + TARGET_CELL, 1);
+}
+
 static void one_cell(void)
 {
-    put_word(first_state, 1, value_for(1));
-    put_word(first_state, CELLS + 1, 1);
+    k1_state();
     add_matching();
+}
+
+static void query_with_1(void)
+{
+    k1_state();
+    k1_with_1();
+}
+
+static void query_with_64_above(void)
+{
+    k1_state();
+    k1_with_64_above();
+}
+
+static void query_with_64_below(void)
+{
+    k1_state();
+    k1_with_64_below();
 }
 
 static void from_empty(void (*prepare)(void))
@@ -398,7 +423,10 @@ static const struct line lines[] = {
     { "list-full", LIST, full_with_3, 2568 },
     { "list-one", LIST, one_cell, 34 },
     { "read-listing-full", READ_LISTING, full_listing, 2568 },
-    { "read-listing-one", READ_LISTING, one_cell_listing, 34 }
+    { "read-listing-one", READ_LISTING, one_cell_listing, 34 },
+    { "which-1", WHICH_GRANT, query_with_1, 0 },
+    { "which-64-above", WHICH_GRANT, query_with_64_above, 63 },
+    { "which-64-below", WHICH_GRANT, query_with_64_below, 63 }
 };
 
 static uint64_t call(const struct calls *calls, enum kind kind)
@@ -411,8 +439,10 @@ static uint64_t call(const struct calls *calls, enum kind kind)
         return calls->write(state, sizeof state, grants, 16 * grant_count, out, IRANGELDA_WRITE_BYTES_ENOUGH);
     case LIST:
         return calls->list(state, sizeof state, out, IRANGELDA_LIST_BYTES_ENOUGH);
-    default:
+    case READ_LISTING:
         return calls->read_listing(listing, listing_bytes, state, sizeof state);
+    default:
+        return calls->which_grant(state, sizeof state, grants, 16 * grant_count, TARGET_CELL);
     }
 }
 

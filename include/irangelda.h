@@ -3,7 +3,7 @@
  *
  * A program hands the driver a batch of register writes. irangelda_read looks at every word of it, and changes the register state
  * only if the whole batch is permitted. irangelda_write gives a state back as a batch; irangelda_list gives it as text, and
- * irangelda_read_listing gives the state of such a text.
+ * irangelda_read_listing gives the state of such a text. irangelda_which_grant says which grant admits the address in a register.
  *
  * Every buffer is bytes and every length is in bytes. A word is 32 bits, its lowest byte first. No alignment is needed.
  *
@@ -61,6 +61,7 @@ extern "C" {
 #define IRANGELDA_GRANT_BYTES 16u            /* one grant */
 #define IRANGELDA_GRANTS_MAX 64u             /* grants in a list, at most */
 #define IRANGELDA_GRANTS_BYTES_MAX 1024u
+#define IRANGELDA_NO_GRANT 64u               /* irangelda_which_grant's place where there is none: grants are numbered 0 to 63 */
 #define IRANGELDA_WRITE_WORDS_ENOUGH 184u    /* room that always suffices for irangelda_write, in words */
 #define IRANGELDA_WRITE_BYTES_ENOUGH 736u    /* the same in bytes */
 #define IRANGELDA_LIST_BYTES_ENOUGH 2568u    /* room that always suffices for irangelda_list */
@@ -77,16 +78,17 @@ extern "C" {
  *
  * Where several reasons would fit, the order is 13, 1, 2; then the reader goes through the words from the front and takes the
  * lowest number at the first bad word, with 10 last; the writer takes 12 before 11. The listing reader gives 13, 1 or 19, in this
- * order.
+ * order, and the query 13, 1 or 2.
  */
 enum irangelda_reason {
     /* Done. Place: the length of the batch in words (read), words written (write), bytes written (list), the length of the listing
-       in bytes (read a listing). */
+       in bytes (read a listing), the number of the grant or 64 (which grant). */
     IRANGELDA_OK = 0,
-    /* Read, write, list: the state is not 202 words, or a mark is neither 0 nor 1, or an unmarked value is not 0. Read a listing:
-       the state is not 202 words; what they are does not matter. Place: 0. */
+    /* Read, write, list, which grant: the state is not 202 words, or a mark is neither 0 nor 1, or an unmarked value is not 0. Read
+       a listing: the state is not 202 words; what they are does not matter. Place: 0. */
     IRANGELDA_BAD_STATE = 1,
-    /* Read, write: the list is not 0 to 64 whole grants, or a grant has another role, ends past 2^32 or has reach 0. Place: 0. */
+    /* Read, write, which grant: the list is not 0 to 64 whole grants, or a grant has another role, ends past 2^32 or has reach 0.
+       Place: 0. */
     IRANGELDA_BAD_GRANTS = 2,
     /* Read: the offset in a header is neither 043Ch nor a video register. Place: the header. */
     IRANGELDA_BAD_OFFSET = 3,
@@ -173,6 +175,21 @@ uint64_t irangelda_list(const uint8_t *state, size_t state_len,
  */
 uint64_t irangelda_read_listing(const uint8_t *listing, size_t listing_len,
                                 uint8_t *state, size_t state_len);
+
+/*
+ * Says which grant admits the address in a cell of a state: the lowest-numbered one of the cell's role that covers the address with its
+ * reach. Grants are numbered from 0, as the list has them, whatever their roles are and whether they cover anything. Reason 0: the place
+ * is the number of that grant; or it is 64, IRANGELDA_NO_GRANT, if there is no such cell, the cell is unmarked, its register holds no
+ * address, or no grant admits it. The cells with an address are 1 (target), 89, 90 and 93 (first scaler), 96, 97 and 100 (second
+ * scaler). The address alone is looked at, no other bit of the value: the answer says nothing about whether a batch may write it.
+ *
+ *   state, state_len    looked at: 808 bytes.
+ *   grants, grants_len  looked at. 0 bytes is no grants.
+ *   cell                any number.
+ */
+uint64_t irangelda_which_grant(const uint8_t *state, size_t state_len,
+                               const uint8_t *grants, size_t grants_len,
+                               uint32_t cell);
 
 #ifdef __cplusplus
 }

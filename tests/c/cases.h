@@ -10,5 +10,6 @@ void relistings(void); /* listings read back, and listings damaged in every way,
 void limits(void);     /* lengths around reason 13's limits, and the order of 13, 1 and 2 */
 void lendings(void);   /* every alignment, null pointers, and lengths that no buffer has */
 void made_up(void);    /* many made-up calls, on which the archive and careful.c agree */
+void queries(void);    /* which grant is named, and when none is, against the rules as a plain loop */
 
 #endif

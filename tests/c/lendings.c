@@ -61,6 +61,18 @@ static const struct trial trials[] = {
     { "a bad last digit", { READ_LISTING, { { bad_listing, FULL_TEXT }, { NULL, 0 }, { out, STATE_BYTES } } },
       IRANGELDA_NOT_A_LISTING, FULL_TEXT - 2 },
     { "a state too short", { READ_LISTING, { { full_listing, FULL_TEXT }, { NULL, 0 }, { out, STATE_BYTES - 4 } } },
+      IRANGELDA_BAD_STATE, 0 },
+    { "K1", { WHICH_GRANT, { { k1_state, STATE_BYTES }, { k1_grant, 16 }, { NULL, 1 } } }, IRANGELDA_OK, 0 },
+    { "K2", { WHICH_GRANT, { { k1_state, STATE_BYTES }, { short_grant, 16 }, { NULL, 1 } } }, IRANGELDA_OK, IRANGELDA_NO_GRANT },
+    { "the last grant", { WHICH_GRANT, { { full_state, STATE_BYTES }, { grants, sizeof grants }, { NULL, 1 } } },
+      IRANGELDA_OK, IRANGELDA_GRANTS_MAX - 1 },
+    { "the last cell", { WHICH_GRANT, { { full_state, STATE_BYTES }, { grants, sizeof grants }, { NULL, CELLS - 1 } } },
+      IRANGELDA_OK, IRANGELDA_GRANTS_MAX - 2 },
+    { "past the last cell", { WHICH_GRANT, { { full_state, STATE_BYTES }, { grants, sizeof grants }, { NULL, 0xffffffff } } },
+      IRANGELDA_OK, IRANGELDA_NO_GRANT },
+    { "a bad last grant", { WHICH_GRANT, { { full_state, STATE_BYTES }, { bad_grants, sizeof grants }, { NULL, 1 } } },
+      IRANGELDA_BAD_GRANTS, 0 },
+    { "a bad last mark", { WHICH_GRANT, { { bad_state, STATE_BYTES }, { grants, sizeof grants }, { NULL, 1 } } },
       IRANGELDA_BAD_STATE, 0 }
 };
 
@@ -178,7 +190,11 @@ static const struct {
     { "empty, no room", LIST, empty, CHANGED, IRANGELDA_NO_ROOM, 0 },
     { "no listing", READ_LISTING, k1_state, FIRST, IRANGELDA_NOT_A_LISTING, 0 },
     { "no state", READ_LISTING, k1_state, CHANGED, IRANGELDA_BAD_STATE, 0 },
-    { "nothing", READ_LISTING, k1_state, FIRST | CHANGED, IRANGELDA_BAD_STATE, 0 }
+    { "nothing", READ_LISTING, k1_state, FIRST | CHANGED, IRANGELDA_BAD_STATE, 0 },
+    { "no state", WHICH_GRANT, k1_state, FIRST, IRANGELDA_BAD_STATE, 0 },
+    { "no grants", WHICH_GRANT, k1_state, GRANTS, IRANGELDA_OK, IRANGELDA_NO_GRANT },
+    { "nothing", WHICH_GRANT, k1_state, FIRST | GRANTS, IRANGELDA_BAD_STATE, 0 },
+    { "empty, no grants", WHICH_GRANT, empty, GRANTS, IRANGELDA_OK, IRANGELDA_NO_GRANT }
 };
 
 static struct request from_k1(enum kind kind, const uint8_t *state)
@@ -190,8 +206,10 @@ static struct request from_k1(enum kind kind, const uint8_t *state)
         return (struct request){ WRITE, { { state, STATE_BYTES }, { k1_grant, 16 }, { out, 12 } } };
     case LIST:
         return (struct request){ LIST, { { state, STATE_BYTES }, { NULL, 0 }, { out, 34 } } };
-    default:
+    case READ_LISTING:
         return (struct request){ READ_LISTING, { { k1_listing, 34 }, { NULL, 0 }, { state, STATE_BYTES } } };
+    default:
+        return (struct request){ WHICH_GRANT, { { state, STATE_BYTES }, { k1_grant, 16 }, { NULL, 1 } } };
     }
 }
 
@@ -251,7 +269,7 @@ static void told_too_long(const struct party *party, enum kind kind, unsigned sa
 static void lengths_of_no_buffer(const struct party *party, enum kind kind)
 {
     for (unsigned said = 1; said <= (FIRST | GRANTS | CHANGED); said++) {
-        if (!takes_grants(kind) && (said & GRANTS) != 0)
+        if ((!has_buffer(kind, 1) && (said & GRANTS) != 0) || (!has_buffer(kind, LAST) && (said & CHANGED) != 0))
             continue;
         for (size_t which = 0; which < TOO_MUCH + TOO_LONG; which++) {
             told_too_long(party, kind, said, which, AT_FENCE);

@@ -15,15 +15,24 @@
 enum { PAGE = 4096, GUARD = 64, GUARD_BYTE = 0x5c, PAINT = 0xa5, STACK_BYTES = 4 * PAGE, SIGNAL_BYTES = 16 * PAGE, RETURN_ADDRESS = 8 };
 
 const struct party parties[PARTIES] = {
-    [ARCHIVE] = { "archive", irangelda_read, irangelda_write, irangelda_list, irangelda_read_listing },
-    [CAREFUL] = { "careful", careful_read, careful_write, careful_list, careful_read_listing }
+    [ARCHIVE] = { "archive", irangelda_read, irangelda_write, irangelda_list, irangelda_read_listing, irangelda_which_grant },
+    [CAREFUL] = { "careful", careful_read, careful_write, careful_list, careful_read_listing, careful_which_grant }
 };
 
-const char *const kind_names[KINDS] = { [READ] = "read", [WRITE] = "write", [LIST] = "list", [READ_LISTING] = "read listing" };
+const char *const kind_names[KINDS] = {
+    [READ] = "read", [WRITE] = "write", [LIST] = "list", [READ_LISTING] = "read listing", [WHICH_GRANT] = "which grant"
+};
 
-int takes_grants(enum kind kind)
+int has_buffer(enum kind kind, size_t buffer)
 {
-    return kind == READ || kind == WRITE;
+    switch (buffer) {
+    case 0:
+        return 1;
+    case 1:
+        return kind == READ || kind == WRITE || kind == WHICH_GRANT;
+    default:
+        return kind != WHICH_GRANT;
+    }
 }
 
 int is_text_buffer(enum kind kind, size_t buffer)
@@ -99,7 +108,7 @@ static int same(const struct place *place, struct bytes bytes, size_t from)
 
 /* ---- stacks */
 
-static const struct party nobody = { "nobody", nothing_of_six, nothing_of_six, nothing_of_four, nothing_of_four };
+static const struct party nobody = { "nobody", nothing_of_six, nothing_of_six, nothing_of_four, nothing_of_four, nothing_of_five };
 
 /* A stack for each party and kind of call, and one for nobody. Painted once: what is left of the paint tells the deepest use. */
 static uint8_t *stacks[PARTIES + 1][KINDS];
@@ -148,8 +157,11 @@ static void call(void)
     case LIST:
         under_way.answer = party->list(p[0].at, p[0].told, p[2].at, p[2].told);
         break;
-    default:
+    case READ_LISTING:
         under_way.answer = party->read_listing(p[0].at, p[0].told, p[2].at, p[2].told);
+        break;
+    default:
+        under_way.answer = party->which_grant(p[0].at, p[0].told, p[1].at, p[1].told, (uint32_t)p[2].told);
     }
 }
 
@@ -216,8 +228,12 @@ void perform_so(const struct party *party, const struct request *request, const 
 {
     under_way.party = party;
     under_way.kind = request->kind;
-    for (size_t i = 0; i < BUFFERS; i++)
-        under_way.places[i] = lend(i, request->lent[i], manners[i]);
+    for (size_t i = 0; i < BUFFERS; i++) {
+        struct manner manner = manners[i];
+        if (!has_buffer(request->kind, i))
+            manner.where = NULL_POINTER; /* a number may be told; nothing is lent */
+        under_way.places[i] = lend(i, request->lent[i], manner);
+    }
     call_on_own_stack();
     look_around(request);
     outcome->answer = under_way.answer;

@@ -9,7 +9,7 @@
 #include <stddef.h>
 #include <stdint.h>
 
-enum kind { READ, WRITE, LIST, READ_LISTING, KINDS };
+enum kind { READ, WRITE, LIST, READ_LISTING, WHICH_GRANT, KINDS };
 
 /* The longest buffer of any test is a little longer than the calls take. */
 enum { BUFFERS = 3, MOST_LENT = 65536 + 64 };
@@ -20,7 +20,7 @@ struct bytes {
 };
 
 /* Read: batch, grants, state. Write: state, grants, out. List: state, nothing, out. Read a listing: listing, nothing, state. The last is
-   the one that the call may change. */
+   the one that the call may change. Which grant: state, grants, and no third: in place of its length stands the cell's number. */
 struct request {
     enum kind kind;
     struct bytes lent[BUFFERS];
@@ -39,14 +39,15 @@ struct party {
     uint64_t (*write)(const uint8_t *, size_t, const uint8_t *, size_t, uint8_t *, size_t);
     uint64_t (*list)(const uint8_t *, size_t, uint8_t *, size_t);
     uint64_t (*read_listing)(const uint8_t *, size_t, uint8_t *, size_t);
+    uint64_t (*which_grant)(const uint8_t *, size_t, const uint8_t *, size_t, uint32_t);
 };
 
 enum { ARCHIVE, CAREFUL, PARTIES };
 extern const struct party parties[PARTIES];
 extern const char *const kind_names[KINDS];
 
-/* The second buffer of a kind of call is a grant list, or there is none. */
-int takes_grants(enum kind kind);
+/* Not every kind of call takes grants, and the query has no third buffer. */
+int has_buffer(enum kind kind, size_t buffer);
 
 /* A buffer of words has a length that is a multiple of 4; one of text has any. */
 int is_text_buffer(enum kind kind, size_t buffer);

@@ -4,11 +4,11 @@
 #include "words.h"
 #include <string.h>
 
-enum { LENT_WORDS = MOST_LENT / 4, OK = IRANGELDA_OK, LAST = BUFFERS - 1 };
+enum { LENT_WORDS = MOST_LENT / 4, OK = IRANGELDA_OK, LAST = BUFFERS - 1, TARGET_CELL = 1 };
 
 /* Contents that are fine at any length at which they can be: writes of 2208; the same grant again and again; a state with 2208, and its
-   listing. */
-static uint8_t batch[MOST_LENT], grants[MOST_LENT], state[MOST_LENT], out[MOST_LENT], listing[MOST_LENT];
+   listing; a state with the address that the grant is of. */
+static uint8_t batch[MOST_LENT], grants[MOST_LENT], state[MOST_LENT], out[MOST_LENT], listing[MOST_LENT], target[MOST_LENT];
 
 static void fill(void)
 {
@@ -20,6 +20,7 @@ static void fill(void)
         put_word(out, i, 0xeeeeeeee);
     }
     set_cell(state, 84, 7);
+    set_cell(target, TARGET_CELL, 0x10);
     memset(listing, '\n', sizeof listing);
     memcpy(listing, text, strlen(text));
 }
@@ -44,14 +45,25 @@ static struct request fine(enum kind kind)
         return (struct request){ WRITE, { { state, STATE_BYTES }, { grants, 16 }, { out, 8 } } };
     case LIST:
         return (struct request){ LIST, { { state, STATE_BYTES }, { NULL, 0 }, { out, 30 } } };
-    default:
+    case READ_LISTING:
         return (struct request){ READ_LISTING, { { listing, 30 }, { NULL, 0 }, { state, STATE_BYTES } } };
+    default:
+        return (struct request){ WHICH_GRANT, { { target, STATE_BYTES }, { grants, 16 }, { NULL, TARGET_CELL } } };
     }
 }
 
 static uint32_t fine_place(enum kind kind)
 {
-    return takes_grants(kind) ? 2 : 30;
+    switch (kind) {
+    case READ:
+    case WRITE:
+        return 2;
+    case LIST:
+    case READ_LISTING:
+        return 30;
+    default:
+        return 0;
+    }
 }
 
 /* Which buffer is the state. */
@@ -95,7 +107,8 @@ static void batch_lengths(const struct party *party)
 static void grants_lengths(const struct party *party, enum kind kind)
 {
     const struct length list[] = {
-        { 0, OK, fine_place(kind) }, { 4, 2, 0 }, { 8, 2, 0 }, { 12, 2, 0 }, { 13, 13, 0 }, { 14, 13, 0 }, { 15, 13, 0 },
+        { 0, OK, kind == WHICH_GRANT ? IRANGELDA_NO_GRANT : fine_place(kind) },
+        { 4, 2, 0 }, { 8, 2, 0 }, { 12, 2, 0 }, { 13, 13, 0 }, { 14, 13, 0 }, { 15, 13, 0 },
         { 16, OK, fine_place(kind) }, { 17, 13, 0 }, { 20, 2, 0 }, { 1008, OK, fine_place(kind) }, { 1012, 2, 0 },
         { 1024, OK, fine_place(kind) }, { 1025, 13, 0 }, { 1028, 2, 0 }, { 1040, 2, 0 }, { 2048, 2, 0 },
         { 65520, 2, 0 }, { 65532, 2, 0 }, { 65536, 2, 0 }, NOT_WHOLE_WORDS, TOO_LONG
@@ -177,7 +190,7 @@ static void thirteen_first(const struct party *party, struct request all_wrong)
         struct request longer = as_long_as(all_wrong, buffer, 65540), odd = as_long_as(all_wrong, buffer, 7);
         longer.lent[buffer].at = batch;
         odd.lent[buffer].at = batch;
-        if (buffer == 1 && !takes_grants(all_wrong.kind))
+        if (!has_buffer(all_wrong.kind, buffer))
             continue;
         answers(party, "13 first", &longer, 0, 13);
         if (!is_text_buffer(all_wrong.kind, buffer))
@@ -220,6 +233,14 @@ static void listing_reader_order(const struct party *party)
     thirteen_first(party, all_wrong);
     answers(party, "1 before 19", &all_wrong, 0, 1);
     answers(party, "19", &listing_wrong, 0, 19);
+}
+
+static void query_order(const struct party *party)
+{
+    struct request grants_wrong = with(fine(WHICH_GRANT), 1, bad_grant), all_wrong = with(grants_wrong, 0, bad_state);
+    thirteen_first(party, all_wrong);
+    answers(party, "1 before 2", &all_wrong, 0, 1);
+    answers(party, "2", &grants_wrong, 0, 2);
 }
 
 /* ---- each word of the state, spoilt in turn: 1, but for the listing reader, to which it does not matter */
@@ -276,13 +297,14 @@ void limits(void)
         writer_order(party);
         lister_order(party);
         listing_reader_order(party);
+        query_order(party);
         for (int kind = 0; kind < KINDS; kind++) {
             state_lengths(party, (enum kind)kind);
             spoilt_states(party, (enum kind)kind);
-        }
-        for (int kind = READ; kind <= WRITE; kind++) {
-            grants_lengths(party, (enum kind)kind);
-            spoilt_grants(party, (enum kind)kind);
+            if (has_buffer((enum kind)kind, 1)) {
+                grants_lengths(party, (enum kind)kind);
+                spoilt_grants(party, (enum kind)kind);
+            }
         }
     }
 }

@@ -6,7 +6,7 @@
 #include <stdio.h>
 #include <string.h>
 
-enum { READS = 70000, WRITES = 50000, LISTS = 30000, READ_LISTINGS = 50000, REASONS = 20, MANY = 100 };
+enum { READS = 70000, WRITES = 50000, LISTS = 30000, READ_LISTINGS = 50000, QUERIES = 50000, REASONS = 20, MANY = 100 };
 
 static unsigned long given[KINDS][REASONS];
 
@@ -15,7 +15,8 @@ static const unsigned can_give[KINDS] = {
     1u << 0 | 1u << 1 | 1u << 2 | 1u << 3 | 1u << 4 | 1u << 5 | 1u << 6 | 1u << 7 | 1u << 8 | 1u << 9 | 1u << 10 | 1u << 13,
     1u << 0 | 1u << 1 | 1u << 2 | 1u << 11 | 1u << 12 | 1u << 13,
     1u << 0 | 1u << 1 | 1u << 11 | 1u << 13,
-    1u << 0 | 1u << 1 | 1u << 13 | 1u << 19
+    1u << 0 | 1u << 1 | 1u << 13 | 1u << 19,
+    1u << 0 | 1u << 1 | 1u << 2 | 1u << 13
 };
 
 static struct grants grants;
@@ -195,6 +196,14 @@ static void made_up_read_listing(void)
     both_agree(&request);
 }
 
+static void made_up_query(void)
+{
+    struct request request = { WHICH_GRANT, { { state_bytes, 0 }, grants_lent(), { NULL, 0 } } };
+    request.lent[0] = state_lent(3);
+    request.lent[2].length = make_cell();
+    both_agree(&request);
+}
+
 /* No call can give 14 to 18. */
 static int is_reason(int reason)
 {
@@ -241,6 +250,8 @@ void made_up(void)
         made_up_list();
     for (int i = 0; i < READ_LISTINGS; i++)
         made_up_read_listing();
+    for (int i = 0; i < QUERIES; i++)
+        made_up_query();
     print_counts();
     look_at_counts();
 }

@@ -7,7 +7,9 @@
 /* No call may use more; ours are held to less. */
 enum { MOST_STACK = 4096 };
 
-static const size_t most_of_ours[KINDS] = { [READ] = 2000, [WRITE] = 2000, [LIST] = 1200, [READ_LISTING] = 1600 };
+static const size_t most_of_ours[KINDS] = {
+    [READ] = 2000, [WRITE] = 2000, [LIST] = 1200, [READ_LISTING] = 1600, [WHICH_GRANT] = 1200
+};
 
 static void stacks(void)
 {
@@ -38,6 +40,7 @@ int main(void)
     part("limits", limits);
     part("lendings", lendings);
     part("made-up calls", made_up);
+    part("queries", queries);
     part("stacks", stacks);
     if (failures != 0) {
         printf("C tests: %lu of %lu checks failed\n", failures, checks);

@@ -273,6 +273,19 @@ void damage_state(uint32_t *state)
     }
 }
 
+uint32_t make_cell(void)
+{
+    uint32_t any = chance(), shift = below(32);
+    switch (below(8)) {
+    case 0:
+        return any >> shift;
+    case 1:
+        return below(2 * CELLS + 2);
+    default:
+        return ONE_OF(1, 1, 1, 89, 90, 93, 96, 97, 100);
+    }
+}
+
 /* ---- listings */
 
 static uint8_t some_byte(void)

@@ -1,4 +1,4 @@
-/* Grants, batches, states and listings by chance: right ones, and right ones damaged in one place. */
+/* Grants, batches, states, cells and listings by chance: right ones, and right ones damaged in one place. */
 #ifndef MAKING_H
 #define MAKING_H
 
@@ -33,6 +33,9 @@ void damage_batch(struct batch *batch);
 /* One cell in `every` is marked. */
 void make_state(uint32_t *state, const struct grants *grants, uint32_t every);
 void damage_state(uint32_t *state);
+
+/* The number of a cell: mostly of one with an address, sometimes of any, and sometimes a number that no cell has. */
+uint32_t make_cell(void);
 
 /* The text has room for as many bytes again. Answers its length then. */
 size_t damage_text(uint8_t *text, size_t length);

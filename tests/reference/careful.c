@@ -1,10 +1,11 @@
 /*
- * The four calls as a careful C programmer writes them, from docs/RULES.md alone: its rules in its order and words, each reason
+ * The five calls as a careful C programmer writes them, from docs/RULES.md alone: its rules in its order and words, each reason
  * returned where it is found. The shape is one that is quick, and the rest is left to the compiler.
  *
  * The reader goes through the batch once, works on a copy of the state and hands the copy back only when the whole batch was fine.
  * The writer and the lister have checked everything, the room too, before they put down the first byte. The listing reader goes through
- * the text once and fills a state of its own, which it hands over only at the end. So a refusal changes nothing.
+ * the text once and fills a state of its own, which it hands over only at the end. So a refusal changes nothing. The query goes
+ * through the grants once, and changes nothing at all.
  */
 #include "careful.h"
 #include <string.h>
@@ -75,14 +76,17 @@ static inline void set_cell(uint8_t *state, size_t cell, uint32_t value)
     store(state, CELLS + cell, 1);
 }
 
-/* Each mark is 0 or 1 and an unmarked value is 0. There is no early way out, so that the compiler can take several cells at once. */
+/*
+ * Each mark is 0 or 1 and an unmarked value is 0. There is no early way out, so that the compiler can take several cells at once; and
+ * a product, since gcc makes a branch of a choice where the call stores nothing, as the query, and then takes one at a time.
+ */
 static inline int is_well_formed(const uint8_t *state)
 {
     uint32_t marks = 0, unmarked_values = 0;
     for (size_t cell = 0; cell < CELLS; cell++) {
         uint32_t value = value_of(state, cell), mark = mark_of(state, cell);
         marks |= mark;
-        unmarked_values |= mark == 0 ? value : 0;
+        unmarked_values |= (mark == 0) * value;
     }
     return marks <= 1 && unmarked_values == 0;
 }
@@ -897,4 +901,72 @@ uint64_t careful_read_listing(const uint8_t *listing, size_t listing_len,
     if (given % 256 == OK)
         memcpy(state, listed, STATE_BYTES);
     return given;
+}
+
+/* ---- the query */
+
+enum { NO_ROLE, NO_GRANT = MOST_GRANTS };
+
+/* The role of the address that the register of a cell holds. */
+static inline uint32_t role_of(uint32_t cell)
+{
+    switch (cell) {
+    case 1:
+        return 1;
+    case 89:
+    case 90:
+    case 93:
+        return 2;
+    case 96:
+    case 97:
+    case 100:
+        return 3;
+    default: /* it holds none, or there is no such cell */
+        return NO_ROLE;
+    }
+}
+
+struct asked {
+    uint32_t role;
+    uint64_t address; /* a target's may be one past all memory: a state can hold more than 24 bits */
+};
+
+static inline struct asked asked_of(const uint8_t *state, uint32_t cell)
+{
+    uint32_t role = role_of(cell);
+    if (role == NO_ROLE || mark_of(state, cell) == 0)
+        return (struct asked){ NO_ROLE, 0 };
+    uint32_t value = value_of(state, cell);
+    return (struct asked){ role, role == 1 ? (uint64_t)value * 256 : bits(value, 28, 4) << 4 };
+}
+
+/*
+ * Looks at each of the caller's grants once, since what the reader keeps of them has no numbers, and remembers the first that admits
+ * what is asked. No grant has NO_ROLE.
+ */
+static inline uint64_t find_grant(const uint8_t *grants, size_t words, struct asked asked)
+{
+    size_t found = NO_GRANT;
+    if (words % GRANT_WORDS != 0 || words > MOST_GRANTS * GRANT_WORDS)
+        return answer(0, BAD_GRANTS);
+    for (size_t i = 0; i < words; i += GRANT_WORDS) {
+        uint32_t role = load(grants, i);
+        uint64_t start = load(grants, i + 1), end = start + load(grants, i + 2), reach = load(grants, i + 3);
+        if (role < 1 || role > 3 || end > (uint64_t)1 << 32 || reach < 1)
+            return answer(0, BAD_GRANTS);
+        if (found == NO_GRANT && role == asked.role && start <= asked.address && asked.address + reach <= end)
+            found = i / GRANT_WORDS;
+    }
+    return answer(found, OK);
+}
+
+uint64_t careful_which_grant(const uint8_t *state, size_t state_len,
+                             const uint8_t *grants, size_t grants_len,
+                             uint32_t cell)
+{
+    if (!is_word_buffer(state_len) || !is_word_buffer(grants_len))
+        return answer(0, BAD_BUFFER);
+    if (!is_state(state, state_len))
+        return answer(0, BAD_STATE);
+    return find_grant(grants, grants_len / 4, asked_of(state, cell));
 }

@@ -9,6 +9,7 @@ ghost use Rattle.grants.specs.Kept.{Granting, Keeps};
 ghost use Rattle.headers.specs.Told.{Leads};
 ghost use Rattle.asking.specs.Asked.{kindFrom, partIn, capped, stopped, takenAs, movedOn, boundFor, askedIn};
 use grants::BOUNDS;
+use grants::Numbers;
 use grants::Part;
 use grants::Spans;
 use headers::Group;
@@ -126,6 +127,7 @@ fn at_parameter(
     left: u32,
     starts: &Spans,
     lasts: &Spans,
+    numbers: &Numbers,
     part: Part,
 ) -> Asked
     requires group { ⌜ Leads setting group ⌝ }
@@ -139,6 +141,7 @@ fn at_parameter(
         value,
         starts,
         lasts,
+        numbers,
         part,
     );
     if judged.reason != 0 {
@@ -166,6 +169,7 @@ fn at_video(
     left: u32,
     starts: &Spans,
     lasts: &Spans,
+    numbers: &Numbers,
     bounds: &ByteBounds,
 ) -> Asked
     ensures asked { λ r. ⌜ ((g : Terms) → Keeps g (now (starts .entry)) (now (lasts .entry)) (capped (now (bounds .entry))) → r ≡ askedIn g (kinds.Video (videoOffset under)) (suc left) word) ⌝ }
@@ -187,7 +191,7 @@ fn at_video(
             let base = run.base.0;
             let part = part_of(bounds, run.role);
             for_video(
-                judging::scaler_reason(index, word, starts, lasts, part),
+                judging::scaler_reason(index, word, starts, lasts, numbers, part),
                 offset,
                 word,
                 left,
@@ -204,6 +208,7 @@ pub fn ask<'a>(
     word: u32,
     starts: &'a Spans,
     lasts: &'a Spans,
+    numbers: &'a Numbers,
     bounds: &'a ByteBounds,
 ) -> Asked
     ensures asked { λ r. ⌜ ((g : Terms) → Keeps g (now (starts .entry)) (now (lasts .entry)) (capped (now (bounds .entry))) → r ≡ askedIn g (kindFrom under) left word) ⌝ }
@@ -217,8 +222,8 @@ pub fn ask<'a>(
         if under == 0 {
             return at_setting(word, rest);
         }
-        return at_video(under, word, rest, starts, lasts, bounds);
+        return at_video(under, word, rest, starts, lasts, numbers, bounds);
     }
     let part = part_of(bounds, 1);
-    at_parameter(group, under, word, rest, starts, lasts, part)
+    at_parameter(group, under, word, rest, starts, lasts, numbers, part)
 }

@@ -15,6 +15,7 @@ ghost use Rattle.grants.specs.Kept.{Granting};
 ghost use Rattle.rows_video.specs.Scalers.{Scaler, IsScaler};
 ghost use Rattle.headers.specs.Told.{IsGroup, Leads};
 ghost use Rattle.bodies.specs.Passes.{answerOf, bodyFrom, Places};
+use grants::Numbers;
 use grants::Part;
 use grants::Spans;
 use headers::Group;
@@ -53,6 +54,7 @@ pub fn take_parameters(
     group: Group,
     starts: &Spans,
     lasts: &Spans,
+    numbers: &Numbers,
     part: Part,
     state: &mut State,
 ) -> Answer
@@ -71,6 +73,7 @@ pub fn take_parameters(
             value,
             starts,
             lasts,
+            numbers,
             part,
         );
         if judged.reason != 0 {
@@ -121,6 +124,7 @@ pub fn take_scaler(
     index: usize,
     starts: &Spans,
     lasts: &Spans,
+    numbers: &Numbers,
     part: Part,
     state: &mut State,
 ) -> Answer
@@ -136,7 +140,7 @@ pub fn take_scaler(
     let mut at = first;
     while at < end {
         let w = words::word(batch, at);
-        let reason = judging::scaler_reason(k, w, starts, lasts, part);
+        let reason = judging::scaler_reason(k, w, starts, lasts, numbers, part);
         if reason != 0 {
             return Answer { reason, place: at };
         }

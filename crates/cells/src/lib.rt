@@ -11,6 +11,7 @@ ghost use Rattle.meaning.specs.Reader.{valueReason};
 ghost use Rattle.meaning.specs.Writer.{writable};
 ghost use Rattle.grants.specs.Kept.{Granting};
 ghost use Rattle.cells.specs.Rows.{RowOf, IsRow, takesZero, widthOf, vacantIn};
+use grants::Numbers;
 use grants::Part;
 use grants::Spans;
 use meaning::Cell;
@@ -36,16 +37,23 @@ pub enum Row {
     SourceStride,
 }
 
-// 7 to 9 of a value, by the row of its register. `starts` and `lasts` are the grants as they are kept, and `part` those of the role of the
+// 7 to 9 of a value, by the row of its register. `starts`, `lasts` and `numbers` are the grants as they are kept, and `part` those of the role of the
 // row's addresses, if it has any.
-fn row_reason(row: Row, value: u32, starts: &Spans, lasts: &Spans, part: Part) -> u32
+fn row_reason(
+    row: Row,
+    value: u32,
+    starts: &Spans,
+    lasts: &Spans,
+    numbers: &Numbers,
+    part: Part,
+) -> u32
     requires narrow { ⌜ value < 2 ^ widthOf row ⌝ }
     requires inside { ⌜ part .to ≤ mostGrants ⌝ }
     ensures reason { λ r. ⌜ ((g : Terms) (c role : ℕ) → RowOf row c role → ((role ≡ 0 → ⊥) → Granting g role (now (starts .entry)) (now (lasts .entry)) part) → r ≡ valueReason g (registerAt (cell c)) value) ⌝ }
 {
     match row {
         Row::AlphaConstants => rows_3d::alpha_constants_reason(value),
-        Row::TargetAddress => rows_3d::target_address_reason(value, starts, lasts, part),
+        Row::TargetAddress => rows_3d::target_address_reason(value, starts, lasts, numbers, part),
         Row::Location => rows_3d::location_reason(value),
         Row::Format => rows_3d::format_reason(value),
         Row::Stage => rows_3d::stage_reason(value),
@@ -56,8 +64,8 @@ fn row_reason(row: Row, value: u32, starts: &Spans, lasts: &Spans, part: Part) -
         Row::AlphaSelect => rows_video::alpha_select_reason(value),
         Row::Deinterlace => rows_video::deinterlace_reason(value),
         Row::SubPicture => rows_video::sub_picture_reason(value),
-        Row::FirstAddress => rows_video::first_address_reason(value, starts, lasts, part),
-        Row::Address => rows_video::address_reason(value, starts, lasts, part),
+        Row::FirstAddress => rows_video::first_address_reason(value, starts, lasts, numbers, part),
+        Row::Address => rows_video::address_reason(value, starts, lasts, numbers, part),
         Row::DestinationStride => rows_video::destination_stride_reason(value),
         Row::SourceStride => rows_video::source_stride_reason(value),
     }
@@ -110,7 +118,15 @@ fn vacant(state: &[u8], cell: Cell, row: Row, value: u32) -> bool
 
 // A cell of the row may be written. The mark is looked at only where 0 is no value for the register: where a state is well-formed, an
 // unmarked value is 0.
-pub fn fine(state: &[u8], cell: Cell, row: Row, starts: &Spans, lasts: &Spans, part: Part) -> bool
+pub fn fine(
+    state: &[u8],
+    cell: Cell,
+    row: Row,
+    starts: &Spans,
+    lasts: &Spans,
+    numbers: &Numbers,
+    part: Part,
+) -> bool
     requires formed { ⌜ T (wellFormed (wordsOf (now state))) ⌝ }
     requires row { ⌜ IsRow row (cell .0) ⌝ }
     requires inside { ⌜ part .to ≤ mostGrants ⌝ }
@@ -123,5 +139,5 @@ pub fn fine(state: &[u8], cell: Cell, row: Row, starts: &Spans, lasts: &Spans, p
     if !narrow(row, value) {
         return false;
     }
-    row_reason(row, value, starts, lasts, part) == 0
+    row_reason(row, value, starts, lasts, numbers, part) == 0
 }

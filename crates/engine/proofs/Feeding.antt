@@ -63,6 +63,7 @@ module _ (g : Terms) (e : Engine) (w : ℕ) where
               before = e .before;
               starts = e .starts;
               lasts = e .lasts;
+              numbers = e .numbers;
               bounds = e .bounds;
             }
 

@@ -45,7 +45,7 @@ module _ (st grants : List ℕ) {formed fine : Bool} (f : formed ≡ wellFormed 
     is-formed = both-true (wellFormed st) (grantsFine grants) (sym as-told ∙ z) .0
 
     -- neither: the state and the grants are kept
-    pub opened : {starts lasts bounds values marks bytes : List ℕ} → KeptFrom grants (zeros mostGrants) (zeros mostGrants) starts lasts bounds
+    pub opened : {starts lasts numbers bounds values marks bytes : List ℕ} → KeptFrom grants (zeros mostGrants) (zeros mostGrants) (zeros mostGrants) starts lasts numbers bounds
         → values ≡ take cells st → marks ≡ packed st cells (zeros 4) → bytes ≡ byteBounds bounds
         → _≡_ {A = Engine} (record {
           reason = success;
@@ -58,7 +58,8 @@ module _ (st grants : List ℕ) {formed fine : Bool} (f : formed ≡ wellFormed 
           before = values;
           starts = starts;
           lasts = lasts;
+          numbers = numbers;
           bounds = bytes;
         }) (openedWith st grants)
     unfolding openedWith
-    opened k v m b = rw (sym as-told, z, k .0, k .1 .0, v, m, b, k .1 .1)
+    opened k v m b = rw (sym as-told, z, k .0, k .1 .0, k .1 .1 .0, v, m, b, k .1 .1 .1)

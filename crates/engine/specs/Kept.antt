@@ -44,12 +44,13 @@ before r values bits kept =
       before = values;
       starts = kept .starts;
       lasts = kept .lasts;
+      numbers = kept .numbers;
       bounds = byteBounds (kept .bounds);
     }
 
 -- nothing is kept of a state or of grants
 abbrev pub blank : ℕ → Engine
-blank r = before r (zeros cells) (zeros 4) (record { starts = zeros mostGrants; lasts = zeros mostGrants; bounds = zeros 8 })
+blank r = before r (zeros cells) (zeros 4) (record { starts = zeros mostGrants; lasts = zeros mostGrants; numbers = zeros mostGrants; bounds = zeros 8 })
 
 -- 1 where the state is not well-formed, then 2 where the grant list breaks its rules
 abbrev pub openingReason : Bool → Bool → ℕ
@@ -64,7 +65,7 @@ unlessBlank (suc r) e = blank (suc r)
 unfoldable pub openedWith : List ℕ → List ℕ → Engine
 openedWith st grants =
     unlessBlank (openingReason (wellFormed st) (grantsFine grants))
-    (before success (take cells st) (packed st cells (zeros 4)) (keptAfter grants (zeros mostGrants) (zeros mostGrants)))
+    (before success (take cells st) (packed st cells (zeros 4)) (keptAfter grants (zeros mostGrants) (zeros mostGrants) (zeros mostGrants)))
 
 -- ---- a word
 
@@ -82,6 +83,7 @@ refusedBy r e =
       before = e .before;
       starts = e .starts;
       lasts = e .lasts;
+      numbers = e .numbers;
       bounds = e .bounds;
     }
 
@@ -99,6 +101,7 @@ takenBy a e =
       before = e .before;
       starts = e .starts;
       lasts = e .lasts;
+      numbers = e .numbers;
       bounds = e .bounds;
     }
 

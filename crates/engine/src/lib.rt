@@ -17,6 +17,7 @@ ghost use Rattle.engine.specs.Kept.{openingReason, byteBounds, blank, op
 use asking::ByteBounds;
 use grants::BOUNDS;
 use grants::Bounds;
+use grants::Numbers;
 use grants::Spans;
 use meaning::Answer;
 use meaning::BAD_GRANTS;
@@ -54,6 +55,7 @@ pub struct Engine {
     pub before: Values,
     pub starts: Spans,
     pub lasts: Spans,
+    pub numbers: Numbers,
     pub bounds: ByteBounds,
 }
 
@@ -129,6 +131,7 @@ fn refused(reason: u32) -> Engine
         before: [0u32; CELLS],
         starts: [0u32; MOST_GRANTS],
         lasts: [0u32; MOST_GRANTS],
+        numbers: [0u8; MOST_GRANTS],
         bounds: [0u8; BOUNDS],
     }
 }
@@ -153,9 +156,10 @@ pub fn open(state: &[u8], grants: &[u8]) -> Engine
 {
     let mut starts = [0u32; MOST_GRANTS];
     let mut lasts = [0u32; MOST_GRANTS];
+    let mut numbers = [0u8; MOST_GRANTS];
     let mut bounds = [0usize; BOUNDS];
     let formed = states::well_formed(state);
-    let fine = keeping::keep(grants, &mut starts, &mut lasts, &mut bounds);
+    let fine = keeping::keep(grants, &mut starts, &mut lasts, &mut numbers, &mut bounds);
     let reason = opening_reason(formed, fine);
     if reason != 0 {
         return refused(reason);
@@ -175,6 +179,7 @@ pub fn open(state: &[u8], grants: &[u8]) -> Engine
         before: values,
         starts,
         lasts,
+        numbers,
         bounds: bytes,
     }
 }
@@ -197,6 +202,7 @@ pub fn feed(mut engine: Engine, word: u32) -> Engine
         word,
         &engine.starts,
         &engine.lasts,
+        &engine.numbers,
         &engine.bounds,
     );
     if asked.reason != 0 {

@@ -1,18 +1,21 @@
--- Whatever is kept keeps some grants.
+-- Whatever is kept keeps some grants; and the test, beside what is covered.
 -- Assumes nothing.
 use mathlib.Core.Path.{_≡_, refl, sym, ap, _∙_}
-use mathlib.Core.Bool.{Bool, true, false, _&&_, _||_, or-assoc, or-false, and-false, and-or-distrib-left}
+use mathlib.Core.Bool.{Bool, true, false, not, _&&_, _||_, or-assoc, or-false, and-false, and-or-distrib-left}
 use mathlib.Core.List.{List, [], _∷_, _++_}
-use Prim.Native.Nat.{ℕ, zero, suc, _+_, _-_}
+use Prim.Native.Nat.{ℕ, zero, suc, _+_, _-_, _≤_, _<_}
 use native.Mathlib.Omega.{arith}
 use lib.Dec.{T, leb, eqb, leb→le, le→leb}
 use lib.ListN.{getD}
 use mir.Facts.{and-yes, yes-and}
 use borrow.Author.Tests.{eq-eqb}
 use Rattle.laws.specs.Lists.{some}
-use Rattle.meaning.specs.Grants.{Grant, Terms, covers, granted}
+use Rattle.meaning.specs.declared.Which.{Which}
+use Rattle.meaning.specs.declared.Which.the-variants as by
+use Rattle.meaning.specs.Grants.{Grant, Terms, covers, granted, isGrant}
+use Rattle.numbering.proofs.Numbering.{some-first, granted-which}
 use Rattle.grants.specs.declared.Part.{Part}
-use Rattle.grants.specs.Kept.{Keeps, Granting, coversAt, coveredFrom, coveredIn, partOf}
+use Rattle.grants.specs.Kept.{Keeps, Granting, Names, coversAt, coveredFrom, coveredIn, whichKept, whichIn, partOf}
 
 -- two tests that tell the same are equal
 pub same-test : (a b : Bool) → (T a → T b) → (T b → T a) → a ≡ b
@@ -82,7 +85,35 @@ kept-some starts lasts bounds =
       record { targets = λ a. all 1 a ∙ or-false (covered 1 a); firsts = λ a. all 2 a ∙ or-false (covered 2 a); seconds = all 3 },
     )
 
--- an address that the part covers is granted
-pub as-granted : (g : Terms) (role : ℕ) (starts lasts : List ℕ) (part : Part) (a : ℕ) {b : Bool} → Granting g role starts lasts part → b ≡ coveredIn starts lasts part a
-    → b ≡ granted (g .grants) role a
-as-granted g role starts lasts part a given e = e ∙ sym (given a)
+-- ---- the test
+
+-- the test tells what is covered, whatever the numbers are
+covered-which : (starts lasts numbers : List ℕ) (i n a : ℕ) → isGrant (whichKept starts lasts numbers i n a) ≡ coveredFrom starts lasts i n a
+unfolding whichKept coveredFrom
+covered-which starts lasts numbers i zero a = refl
+covered-which starts lasts numbers i (suc n) a =
+    some-first (coversAt starts lasts i a) (getD numbers i 0) (whichKept starts lasts numbers (suc i) n a)
+    ∙ ap (λ (b : Bool). coversAt starts lasts i a || b) (covered-which starts lasts numbers (suc i) n a)
+
+-- so an address that the test admits is granted; the address as the test was handed it
+pub as-granted : (g : Terms) (role : ℕ) (starts lasts numbers : List ℕ) (part : Part) (a : ℕ) {b : ℕ} {w : Which} → Granting g role starts lasts part → b ≡ a
+    → w ≡ whichIn starts lasts numbers part b → isGrant w ≡ granted (g .grants) role a
+as-granted g role starts lasts numbers part a {b} given same e =
+    ap isGrant e ∙ covered-which starts lasts numbers (part .from) (part .to - part .from) b ∙ sym (given b) ∙ ap (granted (g .grants) role) same
+
+-- which of the two it is
+pub by-nobody : {w : Which} → w ≡ by.Nobody → not (isGrant w) ≡ true
+by-nobody e = rw e
+
+pub by-grant : {w : Which} {n : ℕ} → w ≡ by.Grant n → not (isGrant w) ≡ false
+by-grant e = rw e
+
+-- and what names the grants of a list keeps what they grant
+pub names-keep : (g : Terms) (starts lasts numbers bounds : List ℕ) → Names g starts lasts numbers bounds → Keeps g starts lasts bounds
+names-keep g starts lasts numbers bounds names =
+    let each : (role : ℕ) → 1 ≤ role → role < 4 → Granting g role starts lasts (partOf bounds role) =
+    λ role low high a.
+    granted-which (g .grants) role a
+    ∙ ap isGrant (names role low high a)
+    ∙ covered-which starts lasts numbers (partOf bounds role .from) (partOf bounds role .to - partOf bounds role .from) a in
+    record { targets = each 1 (omega arith) (omega arith); firsts = each 2 (omega arith) (omega arith); seconds = each 3 (omega arith) (omega arith) }

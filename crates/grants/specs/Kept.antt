@@ -1,12 +1,14 @@
--- What kept grants grant: they stand by role, each as the first and the last address that it covers.
+-- What kept grants grant: they stand by role, each as the first and the last address that it covers, and with its number.
 -- Assumes nothing.
 use mathlib.Core.Path.{_≡_}
-use mathlib.Core.Bool.{Bool, false, _&&_, _||_}
+use mathlib.Core.Bool.{Bool, false, _&&_, _||_, cond}
 use mathlib.Core.List.{List}
 use Prim.Native.Nat.{ℕ, zero, suc, _+_, _-_, _≤_, _<_}
 use lib.Dec.{leb}
 use lib.ListN.{getD}
-use Rattle.meaning.specs.Grants.{Terms, mostGrants, granted}
+use Rattle.meaning.specs.declared.Which.{Which}
+use Rattle.meaning.specs.declared.Which.the-variants as by
+use Rattle.meaning.specs.Grants.{Terms, mostGrants, granted, which}
 use Rattle.grants.specs.declared.Part.{Part}
 
 -- kept grant number i covers the address
@@ -22,6 +24,17 @@ coveredFrom starts lasts i (suc n) a = let more = coveredFrom starts lasts (suc 
 abbrev pub coveredIn : List ℕ → List ℕ → Part → ℕ → Bool
 coveredIn starts lasts part a = coveredFrom starts lasts (part .from) (part .to - part .from) a
 
+-- the number of the first of them that does
+unfoldable pub whichKept : List ℕ → List ℕ → List ℕ → ℕ → ℕ → ℕ → Which
+whichKept starts lasts numbers i zero a = by.Nobody
+whichKept starts lasts numbers i (suc n) a =
+    let more = whichKept starts lasts numbers (suc i) n a in
+    cond (coversAt starts lasts i a) (by.Grant (getD numbers i 0)) more
+
+-- the first of a part
+abbrev pub whichIn : List ℕ → List ℕ → List ℕ → Part → ℕ → Which
+whichIn starts lasts numbers part a = whichKept starts lasts numbers (part .from) (part .to - part .from) a
+
 -- the part of a role
 abbrev pub partOf : List ℕ → ℕ → Part
 partOf bounds role = record { from = getD bounds role 0; to = getD bounds (4 + role) 0 }
@@ -34,8 +47,13 @@ Bounded bounds = (role : ℕ) → role < 4 → partOf bounds role .to ≤ mostGr
 abbrev pub Granting : Terms → ℕ → List ℕ → List ℕ → Part → Type 0
 Granting g role starts lasts part = (a : ℕ) → granted (g .grants) role a ≡ coveredIn starts lasts part a
 
--- THE RELATION: what is kept keeps a grant list, each role in its part
+-- what is kept keeps what a grant list grants, each role in its part. For this the numbers do not matter
 pub record Keeps (g : Terms) (starts lasts bounds : List ℕ) : Type 0 where
   pub targets : Granting g 1 starts lasts (partOf bounds 1)
   pub firsts : Granting g 2 starts lasts (partOf bounds 2)
   pub seconds : Granting g 3 starts lasts (partOf bounds 3)
+
+-- THE RELATION: it keeps the list, so that the test names the grant that admits an address
+abbrev pub Names : Terms → List ℕ → List ℕ → List ℕ → List ℕ → Type 0
+Names g starts lasts numbers bounds =
+    (role : ℕ) → 1 ≤ role → role < 4 → (a : ℕ) → which (g .grants) role a ≡ whichIn starts lasts numbers (partOf bounds role) a

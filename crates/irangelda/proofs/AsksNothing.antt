@@ -5,6 +5,7 @@ use Rattle.irangelda.proofs.irangelda_read.Reads as irangelda-read
 use Rattle.irangelda.proofs.irangelda_write.Reads as irangelda-write
 use Rattle.irangelda.proofs.irangelda_list.Reads as irangelda-list
 use Rattle.irangelda.proofs.irangelda_read_listing.Reads as irangelda-read-listing
+use Rattle.irangelda.proofs.irangelda_which_grant.Reads as irangelda-which-grant
 
 -- a contract that every caller keeps to,
 abbrev pub AsksNothing {ℓ} : {K : Type ℓ} {A : K → Type ℓ} (P : (κ : K) → A κ → Type ℓ) → Type ℓ
@@ -25,3 +26,6 @@ irangelda-list-asks κs a = nothing-asked
 
 pub irangelda-read-listing-asks : AsksNothing irangelda-read-listing.Asked
 irangelda-read-listing-asks κs a = nothing-asked
+
+pub irangelda-which-grant-asks : AsksNothing irangelda-which-grant.Asked
+irangelda-which-grant-asks κs a = nothing-asked

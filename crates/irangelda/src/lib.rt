@@ -5,9 +5,11 @@ ghost use mathlib.Core.List.{[], _∷_};
 ghost use Prim.Native.Nat.{_≤_};
 ghost use Rattle.laws.specs.Lists.{every};
 ghost use Rattle.meaning.specs.Answers.{numberOf};
+ghost use Rattle.meaning.specs.Registers as registers;
 ghost use Rattle.meaning.specs.Exported as exported;
 use meaning::Answer;
 use meaning::BAD_BUFFER;
+use meaning::Cell;
 use meaning::MOST_BYTES;
 
 // 13: no buffer is over 65,536 bytes,
@@ -51,6 +53,16 @@ fn text_buffers_fine(state: &[u8], text: &[u8]) -> bool
         return false;
     }
     buffer_fine(text)
+}
+
+// And of the two that the query is lent.
+fn query_buffers_fine(state: &[u8], grants: &[u8]) -> bool
+    ensures fine { λ r. ⌜ r ≡ exported.wordBufferFine (now (state .entry)) && exported.wordBufferFine (now (grants .entry)) ⌝ }
+{
+    if !word_buffer_fine(state) {
+        return false;
+    }
+    word_buffer_fine(grants)
 }
 
 // The answer as one number. No place is larger than a buffer is long.
@@ -108,4 +120,16 @@ pub extern "C" fn irangelda_read_listing(listing: &[u8], state: &mut [u8]) -> u6
         return BAD_BUFFER;
     }
     number(listing_reader::read_listing(listing, state))
+}
+
+// Which grant admits the address in a cell: 13, 1 and 2, else 0 and the number of the grant, or 64 where there is none. The cell is any
+// number.
+#[no_mangle]
+pub extern "C" fn irangelda_which_grant(state: &[u8], grants: &[u8], cell: u32) -> u64
+    ensures number { λ r. ⌜ r ≡ numberOf (exported.exportedWhichGrant (now (state .entry)) (now (grants .entry)) (registers.cell cell)) ⌝ }
+{
+    if !query_buffers_fine(state, grants) {
+        return BAD_BUFFER;
+    }
+    number(query::which_grant(state, grants, Cell(cell as usize)))
 }

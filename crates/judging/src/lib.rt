@@ -10,6 +10,7 @@ ghost use Rattle.rows_video.specs.Scalers as scalers;
 ghost use Rattle.headers.specs.declared.Group.the-variants as groups;
 ghost use Rattle.headers.specs.Told.{cellIn, IsGroup};
 ghost use Rattle.judging.specs.Judged.{judgedIn};
+use grants::Numbers;
 use grants::Part;
 use grants::Spans;
 use headers::Group;
@@ -33,12 +34,13 @@ fn for_cell(reason: u32, number: usize) -> Judged
     }
 }
 
-// A parameter under 01.00. Here and below `starts` and `lasts` are the grants as they are kept, and `part` those of the addresses' role.
+// A parameter under 01.00. Here and below `starts`, `lasts` and `numbers` are the grants as they are kept, and `part` those of the addresses' role.
 fn judge_target(
     address: SubAddress,
     value: u32,
     starts: &Spans,
     lasts: &Spans,
+    numbers: &Numbers,
     part: Part,
 ) -> Judged
     requires narrow { ⌜ value < 2 ^ 24 ⌝ }
@@ -49,7 +51,7 @@ fn judge_target(
     match a {
         0x3f => for_cell(rows_3d::alpha_constants_reason(value), 0),
         0x50 => for_cell(
-            rows_3d::target_address_reason(value, starts, lasts, part),
+            rows_3d::target_address_reason(value, starts, lasts, numbers, part),
             1,
         ),
         0x51 => for_cell(rows_3d::location_reason(value), 2),
@@ -92,6 +94,7 @@ pub fn judge_parameter(
     value: u32,
     starts: &Spans,
     lasts: &Spans,
+    numbers: &Numbers,
     part: Part,
 ) -> Judged
     requires group { ⌜ IsGroup group ⌝ }
@@ -102,7 +105,7 @@ pub fn judge_parameter(
     match group {
         Group::Sample(base) => judge_sample(base, address, value),
         Group::Stage(base) => judge_stage(base, address, value),
-        Group::Target => judge_target(address, value, starts, lasts, part),
+        Group::Target => judge_target(address, value, starts, lasts, numbers, part),
         Group::Nothing => for_cell(NO_REGISTER, 0),
     }
 }
@@ -119,7 +122,14 @@ pub fn overlay_reason(index: usize, value: u32) -> u32
 }
 
 // A word for one of a scaler's registers: 7 to 9.
-pub fn scaler_reason(index: usize, value: u32, starts: &Spans, lasts: &Spans, part: Part) -> u32
+pub fn scaler_reason(
+    index: usize,
+    value: u32,
+    starts: &Spans,
+    lasts: &Spans,
+    numbers: &Numbers,
+    part: Part,
+) -> u32
     requires seven { ⌜ index < 7 ⌝ }
     requires inside { ⌜ part .to ≤ mostGrants ⌝ }
     ensures reason { λ r. ⌜ ((g : Terms) (c role : ℕ) → scalers.Scaler c role → Granting g role (now (starts .entry)) (now (lasts .entry)) part → r ≡ valueReason g (registerAt (cell (c + index))) value) ⌝ }
@@ -127,10 +137,10 @@ pub fn scaler_reason(index: usize, value: u32, starts: &Spans, lasts: &Spans, pa
     match index {
         0 => rows_video::deinterlace_reason(value),
         1 => rows_video::sub_picture_reason(value),
-        2 => rows_video::first_address_reason(value, starts, lasts, part),
-        3 => rows_video::address_reason(value, starts, lasts, part),
+        2 => rows_video::first_address_reason(value, starts, lasts, numbers, part),
+        3 => rows_video::address_reason(value, starts, lasts, numbers, part),
         4 => rows_video::destination_stride_reason(value),
         5 => rows_video::source_stride_reason(value),
-        _ => rows_video::address_reason(value, starts, lasts, part),
+        _ => rows_video::address_reason(value, starts, lasts, numbers, part),
     }
 }

@@ -1,21 +1,22 @@
--- Grants that are kept cover what they grant.
+-- Grants that are kept tell which of them admits an address, and so cover what they grant.
 -- Assumes nothing.
 use mathlib.Core.Path.{_≡_, refl, sym, _∙_}
 use mathlib.Core.Logic.{_≢_}
-use mathlib.Core.Bool.{Bool, _&&_, _||_, true, false, or-assoc, or-false, and-false}
+use mathlib.Core.Bool.{Bool, _&&_, true, false, cond, and-false}
 use mathlib.Core.List.{List, [], _∷_}
 use Prim.Native.Nat.{ℕ, zero, suc, _+_, _-_, _≤_, _<_}
 use native.Mathlib.Omega.{arith}
 use native.Mathlib.Decide.{ℕ-discrete, decLe}
-use lib.Dec.{T, leb, leb→le, le→leb}
+use lib.Dec.{leb, leb→le, le→leb}
 use lib.ListN.{length, getD, set, length-set}
 use lib.Seq.{getD-set-same, getD-set-other}
 use borrow.Author.Tests.{eq-eqb, ne-eqb, le-leb, lt-leb}
-use Rattle.laws.specs.Lists.{some}
-use Rattle.laws.proofs.Tests.{true-of, holds-of}
-use Rattle.meaning.specs.Grants.{Grant, mostGrants, grantsOf, grantsFine, covers, granted, termsOf}
-use Rattle.grants.specs.Kept.{Keeps, Bounded, coversAt, coveredFrom, coveredIn, partOf}
-use Rattle.grants.proofs.Keeping.{same-test}
+use Rattle.laws.proofs.Tests.{holds-of}
+use Rattle.meaning.specs.declared.Which.{Which}
+use Rattle.meaning.specs.declared.Which.the-variants as by
+use Rattle.meaning.specs.Grants.{Grant, mostGrants, grantsOf, grantsFine, covers, whichFrom, termsOf}
+use Rattle.grants.specs.Kept.{Keeps, Bounded, Names, coversAt, whichKept, whichIn, partOf}
+use Rattle.grants.proofs.Keeping.{same-test, names-keep}
 use Rattle.keeping.specs.Keeping.{Kept, place, placeAll, beginnings, keptOf, keptAfter}
 use Rattle.keeping.proofs.Room.{with-own, empty-first, same-beginning, same-end, next-end, Ready, ready-first, place-kept, place-past, first-fine, first-room, ready-next}
 
@@ -38,161 +39,220 @@ empty start len reach a short =
       | no h ↦ rw (lt-leb start a (omega arith))
     ]
 
+-- ---- the first of two
+
+-- the first that is told, else the second
+abbrev orElse : Which → Which → Which
+orElse (by.Grant n) w = by.Grant n
+orElse by.Nobody w = w
+
+-- a grant, if it covers the address
+abbrev onlyIf : Bool → ℕ → Which
+onlyIf b n = cond b (by.Grant n) by.Nobody
+
+else-nobody : (w : Which) → orElse w by.Nobody ≡ w
+else-nobody (by.Grant n) = refl
+else-nobody by.Nobody = refl
+
+else-assoc : (u v w : Which) → orElse (orElse u v) w ≡ orElse u (orElse v w)
+else-assoc (by.Grant n) v w = refl
+else-assoc by.Nobody v w = refl
+
+cond-else : (b : Bool) (n : ℕ) (w : Which) → cond b (by.Grant n) w ≡ orElse (onlyIf b n) w
+cond-else true n w = refl
+cond-else false n w = refl
+
 -- ---- parts
 
 -- a part with one grant more behind it
-covered-more : (starts lasts : List ℕ) (i n a : ℕ) → coveredFrom starts lasts i (suc n) a ≡ (coveredFrom starts lasts i n a || coversAt starts lasts (i + n) a)
-unfolding coveredFrom
-covered-more starts lasts i zero a = let e : i + 0 ≡ i = omega arith in rw (e, or-false)
-covered-more starts lasts i (suc n) a =
+which-more : (starts lasts numbers : List ℕ) (i n a : ℕ)
+    → whichKept starts lasts numbers i (suc n) a ≡ orElse (whichKept starts lasts numbers i n a) (onlyIf (coversAt starts lasts (i + n) a) (getD numbers (i + n) 0))
+unfolding whichKept
+which-more starts lasts numbers i zero a = let e : i + 0 ≡ i = omega arith in rw e
+which-more starts lasts numbers i (suc n) a =
     let e : i + suc n ≡ suc i + n = omega arith in
-    rw (e, covered-more starts lasts (suc i) n a) (sym (or-assoc (coversAt starts lasts i a) (coveredFrom starts lasts (suc i) n a) _))
+    let here = coversAt starts lasts i a in
+    let rest = whichKept starts lasts numbers (suc i) n a in
+    rw (e, which-more starts lasts numbers (suc i) n a, cond-else here (getD numbers i 0) rest)
+    (cond-else here (getD numbers i 0) _ ∙ sym (else-assoc (onlyIf here (getD numbers i 0)) rest _))
 
 -- a part does not change with what is kept outside it
-covered-still : (starts lasts : List ℕ) (at first last i n a : ℕ) → ((j : ℕ) → i ≤ j → j < i + n → j ≢ at)
-    → coveredFrom (set starts at first) (set lasts at last) i n a ≡ coveredFrom starts lasts i n a
-unfolding coveredFrom coversAt
-covered-still starts lasts at first last i zero a out = refl
-covered-still starts lasts at first last i (suc n) a out =
+which-still : (starts lasts numbers : List ℕ) (at first last number i n a : ℕ) → ((j : ℕ) → i ≤ j → j < i + n → j ≢ at)
+    → whichKept (set starts at first) (set lasts at last) (set numbers at number) i n a ≡ whichKept starts lasts numbers i n a
+unfolding whichKept coversAt
+which-still starts lasts numbers at first last number i zero a out = refl
+which-still starts lasts numbers at first last number i (suc n) a out =
     let here : i ≢ at = out i (omega arith) (omega arith) in
     rw (
       getD-set-other starts at i first 0 here,
       getD-set-other lasts at i last 0 here,
-      covered-still starts lasts at first last (suc i) n a (λ j p q. out j (omega arith) (omega arith)),
+      getD-set-other numbers at i number 0 here,
+      which-still starts lasts numbers at first last number (suc i) n a (λ j p q. out j (omega arith) (omega arith)),
     )
 
--- a grant kept behind a part is covered with it
-covered-grown : (starts lasts : List ℕ) (from at first last a : ℕ) → from ≤ at → at < length starts → at < length lasts
-    → coveredFrom (set starts at first) (set lasts at last) from (at + 1 - from) a ≡ (coveredFrom starts lasts from (at - from) a || (leb first a && leb a last))
+-- a grant kept behind a part is told with it
+which-grown : (starts lasts numbers : List ℕ) (from at first last number a : ℕ) → from ≤ at → at < length starts → at < length lasts → at < length numbers
+    → whichKept (set starts at first) (set lasts at last) (set numbers at number) from (at + 1 - from) a
+    ≡ orElse (whichKept starts lasts numbers from (at - from) a) (onlyIf (leb first a && leb a last) number)
 unfolding coversAt
-covered-grown starts lasts from at first last a before s l =
+which-grown starts lasts numbers from at first last number a before s l m =
     let one : at + 1 - from ≡ suc (at - from) = omega arith in
     let behind : from + (at - from) ≡ at = omega arith in
     rw one
-    (covered-more (set starts at first) (set lasts at last) from (at - from) a
-    ∙ rw (behind, getD-set-same starts at first 0 s, getD-set-same lasts at last 0 l, covered-still starts lasts at first last from (at - from) a (λ j p q e. omega arith)))
+    (which-more (set starts at first) (set lasts at last) (set numbers at number) from (at - from) a
+    ∙ rw (
+      behind,
+      getD-set-same starts at first 0 s,
+      getD-set-same lasts at last 0 l,
+      getD-set-same numbers at number 0 m,
+      which-still starts lasts numbers at first last number from (at - from) a (λ j p q e. omega arith),
+    ))
 
 -- ---- grants kept
 
--- what the part of a role covers
-abbrev held : Kept → ℕ → ℕ → Bool
-held k role a = coveredIn (k .starts) (k .lasts) (partOf (k .bounds) role) a
+-- what the part of a role tells
+abbrev held : Kept → ℕ → ℕ → Which
+held k role a = whichIn (k .starts) (k .lasts) (k .numbers) (partOf (k .bounds) role) a
 
--- the room for the addresses
+-- the room for addresses and numbers
 record Wide (k : Kept) : Type 0 where
   starts : length (k .starts) ≡ mostGrants
   lasts : length (k .lasts) ≡ mostGrants
+  numbers : length (k .numbers) ≡ mostGrants
 
-wide-next : (g : Grant) (k : Kept) → Wide k → Wide (place g k)
-wide-next g k wide =
+wide-next : (n : ℕ) (g : Grant) (k : Kept) → Wide k → Wide (place n g k)
+wide-next n g k wide =
     elim (decLe (g .reach) (g .length)) [
-      | yes h ↦ rw (place-kept g k (le-leb (g .reach) (g .length) h))
-          (record { starts = length-set (k .starts) _ _ ∙ wide .starts; lasts = length-set (k .lasts) _ _ ∙ wide .lasts })
-      | no h ↦ rw (place-past g k (lt-leb (g .reach) (g .length) (omega arith))) wide
+      | yes h ↦ rw (place-kept n g k (le-leb (g .reach) (g .length) h))
+          (record {
+            starts = length-set (k .starts) _ _ ∙ wide .starts;
+            lasts = length-set (k .lasts) _ _ ∙ wide .lasts;
+            numbers = length-set (k .numbers) _ _ ∙ wide .numbers;
+          })
+      | no h ↦ rw (place-past n g k (lt-leb (g .reach) (g .length) (omega arith))) wide
     ]
 
--- the next grant, where there is room for it: the part of its role covers what it covers besides, and the others what they did
-module _ (g : Grant) (gs : List Grant) (k : Kept) (ready : Ready (g ∷ gs) (k .bounds)) (wide : Wide k) (a : ℕ) where
-  own : g .reach ≤ g .length → held (place g k) (g .role) a ≡ (held k (g .role) a || covers (g .role) a g)
+-- the next grant, where there is room for it: the part of its role tells it behind what it told, and the others tell what they did
+module _ (n : ℕ) (g : Grant) (gs : List Grant) (k : Kept) (ready : Ready (g ∷ gs) (k .bounds)) (wide : Wide k) (a : ℕ) where
+  own : g .reach ≤ g .length → held (place n g k) (g .role) a ≡ orElse (held k (g .role) a) (onlyIf (covers (g .role) a g) n)
   unfolding covers
   own fits =
-      let fine = first-fine g k gs ready in
+      let fine = first-fine n g k gs ready in
       let high : g .role < 4 = omega arith in
       let room = ready .room in
-      let there = first-room g k gs ready in
+      let there = first-room n g k gs ready in
       rw (
-        place-kept g k (le-leb (g .reach) (g .length) fits),
+        place-kept n g k (le-leb (g .reach) (g .length) fits),
         same-beginning g gs (k .bounds) room high (g .role) high,
         next-end g gs (k .bounds) room high,
         eq-eqb (g .role) (g .role) refl,
         spanned (g .start) (g .length) (g .reach) a fits,
       )
-      (covered-grown (k .starts) (k .lasts) (getD (k .bounds) (g .role) 0) (getD (k .bounds) (4 + g .role) 0) (g .start) (g .start + (g .length - g .reach)) a
+      (which-grown (k .starts) (k .lasts) (k .numbers) (getD (k .bounds) (g .role) 0) (getD (k .bounds) (4 + g .role) 0) (g .start) (g .start + (g .length - g .reach)) n a
       (room .begun (g .role) high)
       (omega (arith, there, wide .starts))
-      (omega (arith, there, wide .lasts)))
+      (omega (arith, there, wide .lasts))
+      (omega (arith, there, wide .numbers)))
 
-  other : g .reach ≤ g .length → (role : ℕ) → 1 ≤ role → role < 4 → (g .role ≡ role → ⊥) → held (place g k) role a ≡ (held k role a || covers role a g)
+  other : g .reach ≤ g .length → (role : ℕ) → 1 ≤ role → role < 4 → (g .role ≡ role → ⊥)
+      → held (place n g k) role a ≡ orElse (held k role a) (onlyIf (covers role a g) n)
   unfolding covers
   other fits role low high apart =
-      let fine = first-fine g k gs ready in
+      let fine = first-fine n g k gs ready in
       let its : g .role < 4 = omega arith in
       let room = ready .room in
       rw (
-        place-kept g k (le-leb (g .reach) (g .length) fits),
+        place-kept n g k (le-leb (g .reach) (g .length) fits),
         same-beginning g gs (k .bounds) room its role high,
         same-end g gs (k .bounds) room its role apart,
         ne-eqb (g .role) role apart,
-        or-false,
+        else-nobody,
       )
-      (covered-still (k .starts) (k .lasts) _ _ _ _ _ a
+      (which-still (k .starts) (k .lasts) (k .numbers) _ _ _ _ _ _ a
       (λ j from to here.
       elim (decLe (g .role) role) [
         | yes h ↦ omega (arith, room .apart (g .role) role (fine .0) (omega arith) high, with-own g gs (g .role) refl)
         | no h ↦ omega (arith, room .apart role (g .role) low (omega arith) its, room .begun (g .role) its, room .begun role high)
       ]))
 
-  gained : (role : ℕ) → 1 ≤ role → role < 4 → held (place g k) role a ≡ (held k role a || covers role a g)
+  gained : (role : ℕ) → 1 ≤ role → role < 4 → held (place n g k) role a ≡ orElse (held k role a) (onlyIf (covers role a g) n)
   unfolding covers
   gained role low high =
       elim (decLe (g .reach) (g .length)) [
-        | yes fits ↦ elim (ℕ-discrete (g .role) role) [ yes e ↦ rw (← e) (own fits) | no n ↦ other fits role low high n ]
+        | yes fits ↦ elim (ℕ-discrete (g .role) role) [ yes e ↦ rw (← e) (own fits) | no apart ↦ other fits role low high apart ]
         | no h ↦
             let short : g .length < g .reach = omega arith in
-            rw (place-past g k (lt-leb (g .reach) (g .length) short), empty (g .start) (g .length) (g .reach) a short, and-false, or-false)
+            rw (place-past n g k (lt-leb (g .reach) (g .length) short), empty (g .start) (g .length) (g .reach) a short, and-false, else-nobody)
       ]
 
 -- all of them
-all-ready : (gs : List Grant) (k : Kept) → Ready gs (k .bounds) → Ready [] (placeAll gs k .bounds)
+all-ready : (n : ℕ) (gs : List Grant) (k : Kept) → Ready gs (k .bounds) → Ready [] (placeAll n gs k .bounds)
 unfolding placeAll
-all-ready [] k ready = ready
-all-ready (g ∷ gs) k ready = all-ready gs (place g k) (ready-next g k gs ready)
+all-ready n [] k ready = ready
+all-ready n (g ∷ gs) k ready = all-ready (suc n) gs (place n g k) (ready-next n g k gs ready)
 
-all-gained : (gs : List Grant) (k : Kept) → Ready gs (k .bounds) → Wide k
-    → (role : ℕ) → 1 ≤ role → role < 4 → (a : ℕ) → held (placeAll gs k) role a ≡ (held k role a || granted gs role a)
-unfolding placeAll granted some
-all-gained [] k ready wide role low high a = sym (or-false (held k role a))
-all-gained (g ∷ gs) k ready wide role low high a =
-    all-gained gs (place g k) (ready-next g k gs ready) (wide-next g k wide) role low high a
-    ∙ rw (gained g gs k ready wide a role low high) (or-assoc (held k role a) (covers role a g) (some (covers role a) gs))
+all-gained : (n : ℕ) (gs : List Grant) (k : Kept) → Ready gs (k .bounds) → Wide k
+    → (role : ℕ) → 1 ≤ role → role < 4 → (a : ℕ) → held (placeAll n gs k) role a ≡ orElse (held k role a) (whichFrom n gs role a)
+unfolding placeAll whichFrom
+all-gained n [] k ready wide role low high a = sym (else-nobody (held k role a))
+all-gained n (g ∷ gs) k ready wide role low high a =
+    let rest = whichFrom (suc n) gs role a in
+    all-gained (suc n) gs (place n g k) (ready-next n g k gs ready) (wide-next n g k wide) role low high a
+    ∙ rw (gained n g gs k ready wide a role low high, cond-else (covers role a g) n rest) (else-assoc (held k role a) (onlyIf (covers role a g) n) rest)
 
--- no part covers anything at first
-none-held : (gs : List Grant) (starts lasts : List ℕ) (role : ℕ) → role < 4 → (a : ℕ) → coveredIn starts lasts (partOf (beginnings gs) role) a ≡ false
-unfolding coveredFrom
-none-held gs starts lasts role high a =
+-- no part tells anything at first
+none-held : (gs : List Grant) (starts lasts numbers : List ℕ) (role : ℕ) → role < 4 → (a : ℕ)
+    → whichIn starts lasts numbers (partOf (beginnings gs) role) a ≡ by.Nobody
+unfolding whichKept
+none-held gs starts lasts numbers role high a =
     let none : getD (beginnings gs) role 0 - getD (beginnings gs) role 0 ≡ 0 = omega arith in
     rw (empty-first gs role high, none)
 
--- what is kept of a list that keeps its rules keeps it, inside the room
-pub keeps : (ws starts lasts : List ℕ) → length starts ≡ mostGrants → length lasts ≡ mostGrants → T (grantsFine ws)
-    → let k = keptAfter ws starts lasts in Keeps (termsOf ws) (k .starts) (k .lasts) (k .bounds) × Bounded (k .bounds)
-unfolding keptAfter keptOf
-keeps ws starts lasts s l fine =
-    let gs = grantsOf ws in
-    let first : Kept = record { starts = starts; lasts = lasts; bounds = beginnings gs } in
-    let ready = ready-first ws fine in
-    let after = all-ready gs first ready in
-    let each : (role : ℕ) → 1 ≤ role → role < 4 → (a : ℕ) → granted gs role a ≡ held (placeAll gs first) role a =
-    λ role low high a. sym (all-gained gs first ready (record { starts = s; lasts = l }) role low high a ∙ rw (none-held gs starts lasts role high a)) in
-    rw (true-of (grantsFine ws) fine) (
-      record { targets = each 1 (omega arith) (omega arith); firsts = each 2 (omega arith) (omega arith); seconds = each 3 (omega arith) (omega arith) },
-      λ role high. omega (arith, after .room .inside role high),
-    )
+-- ---- a list kept
 
--- what `keep` leaves of a list in the room for starts, lasts and bounds
-abbrev pub KeptFrom : List ℕ → List ℕ → List ℕ → List ℕ → List ℕ → List ℕ → Type 0
-KeptFrom ws starts lasts s l b = (s ≡ keptAfter ws starts lasts .starts) × ((l ≡ keptAfter ws starts lasts .lasts) × (b ≡ keptAfter ws starts lasts .bounds))
+-- the room that is lent
+abbrev pub Lent : List ℕ → List ℕ → List ℕ → Type 0
+Lent starts lasts numbers = (length starts ≡ mostGrants) × ((length lasts ≡ mostGrants) × (length numbers ≡ mostGrants))
 
--- keeps a list that keeps its rules
-pub kept-after : (ws starts lasts : List ℕ) → length starts ≡ mostGrants → length lasts ≡ mostGrants → grantsFine ws ≡ true → {s l b : List ℕ}
-    → KeptFrom ws starts lasts s l b → Keeps (termsOf ws) s l b × Bounded b
-kept-after ws starts lasts ns nl f kept = rw (kept .0, kept .1 .0, kept .1 .1) (keeps ws starts lasts ns nl (holds-of f))
+module _ (ws starts lasts numbers : List ℕ) (fine : grantsFine ws ≡ true) where
+  abbrev gs : List Grant
+  gs = grantsOf ws
 
--- and no part of it ends before it begins
-pub begun-first : (ws starts lasts : List ℕ) → grantsFine ws ≡ true → (role : ℕ) → role < 4
-    → getD (keptAfter ws starts lasts .bounds) role 0 ≤ getD (keptAfter ws starts lasts .bounds) (4 + role) 0
-unfolding keptAfter keptOf
-begun-first ws starts lasts f role high =
-    let gs = grantsOf ws in
-    let first : Kept = record { starts = starts; lasts = lasts; bounds = beginnings gs } in
-    rw f (all-ready gs first (ready-first ws (holds-of f)) .room .begun role high)
+  abbrev begun : Kept
+  begun = record { starts = starts; lasts = lasts; numbers = numbers; bounds = beginnings gs }
+
+  ready : Ready gs (begun .bounds)
+  ready = ready-first ws (holds-of fine)
+
+  -- what is kept of a list that keeps its rules names its grants,
+  pub names : Lent starts lasts numbers → let k = keptAfter ws starts lasts numbers in Names (termsOf ws) (k .starts) (k .lasts) (k .numbers) (k .bounds)
+  unfolding keptAfter keptOf
+  names lent =
+      let wide : Wide begun = record { starts = lent .0; lasts = lent .1 .0; numbers = lent .1 .1 } in
+      rw fine
+      (λ role low high a. sym (all-gained 0 gs begun ready wide role low high a ∙ rw (none-held gs starts lasts numbers role high a)))
+
+  -- inside the room,
+  pub bounded : Bounded (keptAfter ws starts lasts numbers .bounds)
+  unfolding keptAfter keptOf
+  bounded = rw fine (λ role high. omega (arith, all-ready 0 gs begun ready .room .inside role high))
+
+  -- and no part of it ends before it begins
+  pub begun-first : (role : ℕ) → role < 4 → let k = keptAfter ws starts lasts numbers in getD (k .bounds) role 0 ≤ getD (k .bounds) (4 + role) 0
+  unfolding keptAfter keptOf
+  begun-first role high = rw fine (all-ready 0 gs begun ready .room .begun role high)
+
+-- what `keep` leaves of a list in the room for starts, lasts, numbers and bounds
+abbrev pub KeptFrom : List ℕ → List ℕ → List ℕ → List ℕ → List ℕ → List ℕ → List ℕ → List ℕ → Type 0
+KeptFrom ws starts lasts numbers s l n b =
+    let k = keptAfter ws starts lasts numbers in
+    (s ≡ k .starts) × ((l ≡ k .lasts) × ((n ≡ k .numbers) × (b ≡ k .bounds)))
+
+-- names the grants of a list that keeps its rules, and keeps them
+module _ (ws starts lasts numbers : List ℕ) (lent : Lent starts lasts numbers) (fine : grantsFine ws ≡ true) {s l n b : List ℕ}
+    (kept : KeptFrom ws starts lasts numbers s l n b) where
+  pub names-after : Names (termsOf ws) s l n b × Bounded b
+  names-after = rw (kept .0, kept .1 .0, kept .1 .1 .0, kept .1 .1 .1) (names ws starts lasts numbers fine lent, bounded ws starts lasts numbers fine)
+
+  pub kept-after : Keeps (termsOf ws) s l b × Bounded b
+  kept-after = (names-keep (termsOf ws) s l n b (names-after .0), names-after .1)

@@ -1,3 +1,2 @@
-pub mod Grants
 pub mod Room
 pub mod Keeping

@@ -14,7 +14,7 @@ use mir.Facts.{and-yes}
 use Rattle.laws.specs.Lists.{every}
 use Rattle.meaning.specs.Grants.{Grant, mostGrants, grantsOf, grantFine, grantsFine}
 use Rattle.keeping.specs.Keeping.{Kept, withRole, beginnings, place}
-use Rattle.keeping.proofs.Grants.{length-grants, fine-list, fine-grant}
+use Rattle.numbering.proofs.Grants.{length-grants, fine-list, fine-grant}
 
 -- ---- how many have a role
 
@@ -153,19 +153,20 @@ ready-first ws fine =
     let told = fine-list ws fine in
     record { fine = told .2; room = room-first (grantsOf ws) (omega (arith, length-grants ws, told .1)) }
 
-module _ (g : Grant) (k : Kept) where
+module _ (n : ℕ) (g : Grant) (k : Kept) where
   -- a grant that covers some address is kept, and another is not
   pub place-kept : leb (g .reach) (g .length) ≡ true
-      → place g k
+      → place n g k
       ≡ record {
         starts = set (k .starts) (getD (k .bounds) (4 + g .role) 0) (g .start);
         lasts = set (k .lasts) (getD (k .bounds) (4 + g .role) 0) (g .start + (g .length - g .reach));
+        numbers = set (k .numbers) (getD (k .bounds) (4 + g .role) 0) n;
         bounds = longer g (k .bounds);
       }
   unfolding place
   place-kept e = rw e
 
-  pub place-past : leb (g .reach) (g .length) ≡ false → place g k ≡ k
+  pub place-past : leb (g .reach) (g .length) ≡ false → place n g k ≡ k
   unfolding place
   place-past e = rw e
 
@@ -179,7 +180,7 @@ module _ (g : Grant) (k : Kept) where
     first-room = omega (arith, ready .room .inside (g .role) (omega (arith, first-fine)), with-own g gs (g .role) refl)
 
     -- and then for those after it
-    pub ready-next : Ready gs (place g k .bounds)
+    pub ready-next : Ready gs (place n g k .bounds)
     unfolding every
     ready-next =
         let rest = and-yes (grantFine g) (every grantFine gs) (ready .fine) .1 in

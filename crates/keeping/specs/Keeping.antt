@@ -1,4 +1,4 @@
--- How the grants of a list come to be kept: each at the end of its role's part, in the order of the list.
+-- How the grants of a list come to be kept: each at the end of its role's part, in the order of the list, with its number there.
 -- Assumes nothing.
 use mathlib.Core.Bool.{cond}
 use mathlib.Core.List.{List, [], _∷_}
@@ -11,24 +11,26 @@ use Rattle.meaning.specs.Grants.{Grant, grantsOf, grantsFine}
 pub record Kept : Type 0 where
   pub starts : List ℕ
   pub lasts : List ℕ
+  pub numbers : List ℕ
   pub bounds : List ℕ
 
--- a grant at the end of its role's part; one whose reach is more than its length covers no address, and is left out
-unfoldable pub place : Grant → Kept → Kept
-place g k =
+-- grant number n at the end of its role's part; one whose reach is more than its length covers no address, and is left out
+unfoldable pub place : ℕ → Grant → Kept → Kept
+place n g k =
     let at = getD (k .bounds) (4 + g .role) 0 in
     cond (leb (g .reach) (g .length))
     (record {
       starts = set (k .starts) at (g .start);
       lasts = set (k .lasts) at (g .start + (g .length - g .reach));
+      numbers = set (k .numbers) at n;
       bounds = set (k .bounds) (4 + g .role) (at + 1);
     })
     k
 
--- one grant after another
-unfoldable pub placeAll : List Grant → Kept → Kept
-placeAll [] k = k
-placeAll (g ∷ gs) k = placeAll gs (place g k)
+-- one grant after another, from number n on
+unfoldable pub placeAll : ℕ → List Grant → Kept → Kept
+placeAll n [] k = k
+placeAll n (g ∷ gs) k = placeAll (suc n) gs (place n g k)
 
 -- how many grants have the role
 unfoldable pub withRole : ℕ → List Grant → ℕ
@@ -50,10 +52,12 @@ beginnings gs =
     0 ∷ 0 ∷ second ∷ third ∷ 0 ∷ 0 ∷ second ∷ third ∷ []
 
 -- the grants of a list kept, over what stood in the room for them
-unfoldable pub keptOf : List Grant → List ℕ → List ℕ → Kept
-keptOf gs starts lasts = placeAll gs (record { starts = starts; lasts = lasts; bounds = beginnings gs })
+unfoldable pub keptOf : List Grant → List ℕ → List ℕ → List ℕ → Kept
+keptOf gs starts lasts numbers = placeAll 0 gs (record { starts = starts; lasts = lasts; numbers = numbers; bounds = beginnings gs })
 
 -- the same where the list keeps its rules; else nothing is kept
-unfoldable pub keptAfter : List ℕ → List ℕ → List ℕ → Kept
-keptAfter ws starts lasts =
-    cond (grantsFine ws) (keptOf (grantsOf ws) starts lasts) (record { starts = starts; lasts = lasts; bounds = noBounds })
+unfoldable pub keptAfter : List ℕ → List ℕ → List ℕ → List ℕ → Kept
+keptAfter ws starts lasts numbers =
+    cond (grantsFine ws)
+    (keptOf (grantsOf ws) starts lasts numbers)
+    (record { starts = starts; lasts = lasts; numbers = numbers; bounds = noBounds })

@@ -8,6 +8,7 @@ ghost use Rattle.meaning.specs.Words.{wordsOf};
 ghost use Rattle.meaning.specs.Grants.{grantsOf, grantFine, grantsFine};
 ghost use Rattle.keeping.specs.Keeping as kept;
 use grants::Bounds;
+use grants::Numbers;
 use grants::Spans;
 use meaning::MOST_GRANTS;
 
@@ -62,15 +63,24 @@ fn count_roles(grants: &[u8], counts: &mut [usize; 4]) -> bool
     true
 }
 
-// Keeps each grant in its role's part, in the order of the list. One whose reach is more than its length covers no address, and is left out.
-fn place(grants: &[u8], starts: &mut Spans, lasts: &mut Spans, bounds: &mut Bounds)
+// Keeps each grant in its role's part, in the order of the list, and its number in the list with it. One whose reach is more than its
+// length covers no address, and is left out.
+fn place(
+    grants: &[u8],
+    starts: &mut Spans,
+    lasts: &mut Spans,
+    numbers: &mut Numbers,
+    bounds: &mut Bounds,
+)
     requires fine { ⌜ T (grantsFine (wordsOf (now grants))) ⌝ }
     requires begun { ⌜ now bounds ≡ kept.beginnings (grantsOf (wordsOf (now grants))) ⌝ }
-    ensures starts { λ _. ⌜ now (starts .exit) ≡ kept.keptOf (grantsOf (wordsOf (now (grants .entry)))) (now (starts .entry)) (now (lasts .entry)) .starts ⌝ }
-    ensures lasts { λ _. ⌜ now (lasts .exit) ≡ kept.keptOf (grantsOf (wordsOf (now (grants .entry)))) (now (starts .entry)) (now (lasts .entry)) .lasts ⌝ }
-    ensures bounds { λ _. ⌜ now (bounds .exit) ≡ kept.keptOf (grantsOf (wordsOf (now (grants .entry)))) (now (starts .entry)) (now (lasts .entry)) .bounds ⌝ }
+    ensures starts { λ _. ⌜ now (starts .exit) ≡ kept.keptOf (grantsOf (wordsOf (now (grants .entry)))) (now (starts .entry)) (now (lasts .entry)) (now (numbers .entry)) .starts ⌝ }
+    ensures lasts { λ _. ⌜ now (lasts .exit) ≡ kept.keptOf (grantsOf (wordsOf (now (grants .entry)))) (now (starts .entry)) (now (lasts .entry)) (now (numbers .entry)) .lasts ⌝ }
+    ensures numbers { λ _. ⌜ now (numbers .exit) ≡ kept.keptOf (grantsOf (wordsOf (now (grants .entry)))) (now (starts .entry)) (now (lasts .entry)) (now (numbers .entry)) .numbers ⌝ }
+    ensures bounds { λ _. ⌜ now (bounds .exit) ≡ kept.keptOf (grantsOf (wordsOf (now (grants .entry)))) (now (starts .entry)) (now (lasts .entry)) (now (numbers .entry)) .bounds ⌝ }
 {
     let words = grants.len() / 4;
+    let mut number = 0usize;
     let mut i = 0;
     while i < words {
         let length = words::word(grants, i + 2);
@@ -81,19 +91,28 @@ fn place(grants: &[u8], starts: &mut Spans, lasts: &mut Spans, bounds: &mut Boun
             let start = words::word(grants, i + 1);
             starts[at] = start;
             lasts[at] = start + (length - reach);
+            numbers[at] = number as u8;
             bounds[end] = at + 1;
         }
+        number += 1;
         i += 4;
     }
 }
 
 // Keeps the grants of a list; false, and nothing is kept, where the list breaks its rules.
-pub fn keep(grants: &[u8], starts: &mut Spans, lasts: &mut Spans, bounds: &mut Bounds) -> bool
+pub fn keep(
+    grants: &[u8],
+    starts: &mut Spans,
+    lasts: &mut Spans,
+    numbers: &mut Numbers,
+    bounds: &mut Bounds,
+) -> bool
     requires none { ⌜ now bounds ≡ kept.noBounds ⌝ }
     ensures fine { λ r. ⌜ r ≡ grantsFine (wordsOf (now (grants .entry))) ⌝ }
-    ensures starts { λ _. ⌜ now (starts .exit) ≡ kept.keptAfter (wordsOf (now (grants .entry))) (now (starts .entry)) (now (lasts .entry)) .starts ⌝ }
-    ensures lasts { λ _. ⌜ now (lasts .exit) ≡ kept.keptAfter (wordsOf (now (grants .entry))) (now (starts .entry)) (now (lasts .entry)) .lasts ⌝ }
-    ensures bounds { λ _. ⌜ now (bounds .exit) ≡ kept.keptAfter (wordsOf (now (grants .entry))) (now (starts .entry)) (now (lasts .entry)) .bounds ⌝ }
+    ensures starts { λ _. ⌜ now (starts .exit) ≡ kept.keptAfter (wordsOf (now (grants .entry))) (now (starts .entry)) (now (lasts .entry)) (now (numbers .entry)) .starts ⌝ }
+    ensures lasts { λ _. ⌜ now (lasts .exit) ≡ kept.keptAfter (wordsOf (now (grants .entry))) (now (starts .entry)) (now (lasts .entry)) (now (numbers .entry)) .lasts ⌝ }
+    ensures numbers { λ _. ⌜ now (numbers .exit) ≡ kept.keptAfter (wordsOf (now (grants .entry))) (now (starts .entry)) (now (lasts .entry)) (now (numbers .entry)) .numbers ⌝ }
+    ensures bounds { λ _. ⌜ now (bounds .exit) ≡ kept.keptAfter (wordsOf (now (grants .entry))) (now (starts .entry)) (now (lasts .entry)) (now (numbers .entry)) .bounds ⌝ }
 {
     let mut counts = [0usize; 4];
     if !count_roles(grants, &mut counts) {
@@ -105,6 +124,6 @@ pub fn keep(grants: &[u8], starts: &mut Spans, lasts: &mut Spans, bounds: &mut B
     bounds[3] = third;
     bounds[6] = second;
     bounds[7] = third;
-    place(grants, starts, lasts, bounds);
+    place(grants, starts, lasts, numbers, bounds);
     true
 }

@@ -15,7 +15,8 @@ use Rattle.meaning.specs.State.{allWrites}
 use Rattle.meaning.specs.Fitter.{Admits, Inside, Apart, Harmless, Safe, OfAddress, Stores}
 use Rattle.meaning.proofs.EachWrite.{each-write}
 
-admits-iff : (x : Grant) (role a : ℕ) → T (covers role a x) ↔ Admits x role a
+-- the test of a grant, and what it tells
+pub admits-iff : (x : Grant) (role a : ℕ) → T (covers role a x) ↔ Admits x role a
 unfolding covers
 admits-iff x role a = (
   λ t.

@@ -7,11 +7,13 @@ use Prim.Native.Nat.{ℕ, _/_, _%_}
 use lib.Dec.{leb, eqb}
 use lib.ListN.{length}
 use Rattle.laws.specs.Lists.{every, over}
+use Rattle.meaning.specs.declared.Cell.{Cell}
 use Rattle.meaning.specs.declared.Answer.{Answer}
 use Rattle.meaning.specs.Words.{wordsOf, bytesOf}
 use Rattle.meaning.specs.Answers.{badBuffer, provided, settle}
 use Rattle.meaning.specs.Reader.{readAnswer, readLeaves}
 use Rattle.meaning.specs.Writer.{written, writeAnswer}
+use Rattle.meaning.specs.Query.{queryAnswer}
 use Rattle.meaning.specs.Lister.{listing, listAnswer}
 use Rattle.meaning.specs.ListingReader.{listingAnswer, listingLeaves}
 
@@ -68,3 +70,9 @@ exportedReadListing text st = provided (wordBufferFine st && bufferFine text) ba
 -- the bytes of the state after the call
 unfoldable pub exportedReadListingLeaves : List ℕ → List ℕ → List ℕ
 exportedReadListingLeaves text st = settle (exportedReadListing text st) (bytesOf (listingLeaves text (wordsOf st))) st
+
+-- ---- which grant
+
+-- C5 "Its state and its grants are words": the answer, A2 "13 goes before 1"
+unfoldable pub exportedWhichGrant : List ℕ → List ℕ → Cell → Answer
+exportedWhichGrant st grants c = provided (wordBufferFine st && wordBufferFine grants) badBuffer (queryAnswer (wordsOf st) (wordsOf grants) c)

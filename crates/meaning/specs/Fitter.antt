@@ -2,8 +2,8 @@
 -- numbers.
 -- Assumes nothing.
 use mathlib.Core.Path.{_≡_}
-use mathlib.Core.List.{List, List·Memᴰ}
-use Prim.Native.Nat.{ℕ, _+_, _≤_, _<_}
+use mathlib.Core.List.{List, [], _∷_, List·Memᴰ}
+use Prim.Native.Nat.{ℕ, zero, suc, _+_, _≤_, _<_}
 use Rattle.meaning.specs.Registers.{Content, nothing, address, registerAt}
 use Rattle.meaning.specs.Grants.{Grant}
 use Rattle.meaning.specs.State.{Write}
@@ -13,6 +13,23 @@ pub record Admits (x : Grant) (role a : ℕ) : Type 0 where
   pub role-is : x .role ≡ role
   pub from : x .start ≤ a
   pub to : a + x .reach ≤ x .start + x .length
+
+-- G7 "Grants are numbered from 0, as the list has them": said of one grant
+abbrev pub Numbered : ℕ → Grant → List Grant → Type 0
+Numbered n x [] = ⊥
+Numbered zero x (y ∷ gs) = x ≡ y
+Numbered (suc n) x (y ∷ gs) = Numbered n x gs
+
+-- G8 "the lowest-numbered one by which the role is granted it": said as a fact
+pub record LowestOf (gs : List Grant) (role a n : ℕ) : Type 0 where
+  pub grant : Grant
+  pub numbered : Numbered n grant gs
+  pub admits : Admits grant role a
+  pub lowest : (m : ℕ) (x : Grant) → m < n → Numbered m x gs → ¬ Admits x role a
+
+-- G8 "nobody admits it"
+abbrev pub NoneOf : List Grant → ℕ → ℕ → Type 0
+NoneOf gs role a = (m : ℕ) (x : Grant) → Numbered m x gs → ¬ Admits x role a
 
 -- an address with a reach touches a byte
 abbrev pub Touches : ℕ → ℕ → ℕ → Type 0

@@ -1,13 +1,15 @@
 -- Grants: read from words, the rules of the list, and when an address is granted.
 -- G6 "These sums are of whole numbers, and do not wrap."
 -- Assumes nothing.
-use mathlib.Core.Bool.{Bool, _&&_}
+use mathlib.Core.Bool.{Bool, true, false, _&&_, cond}
 use mathlib.Core.List.{List, [], _∷_}
-use Prim.Native.Nat.{ℕ, _+_, _/_, _%_, _^_}
+use Prim.Native.Nat.{ℕ, suc, _+_, _/_, _%_, _^_}
 use lib.Dec.{leb, eqb}
 use lib.ListN.{length}
 use Rattle.laws.specs.Lists.{every, some}
 use Rattle.laws.specs.Tests.{within}
+use Rattle.meaning.specs.declared.Which.{Which}
+use Rattle.meaning.specs.declared.Which.the-variants as by
 
 -- G1 "A grant is four words, in this order: role, start, length, reach."
 pub record Grant : Type 0 where
@@ -44,6 +46,22 @@ covers role a g = eqb (g .role) role && (leb (g .start) a && leb (a + g .reach) 
 -- G5 "A role is granted an address a if some grant of that role has .. and only then."
 unfoldable pub granted : List Grant → ℕ → ℕ → Bool
 granted gs role a = some (covers role a) gs
+
+-- the first of these grants that admits the address, where the list goes on from number n: G7 "Grants are numbered from 0, as the list has
+-- them"
+unfoldable pub whichFrom : ℕ → List Grant → ℕ → ℕ → Which
+whichFrom n [] role a = by.Nobody
+whichFrom n (g ∷ gs) role a = let more = whichFrom (suc n) gs role a in cond (covers role a g) (by.Grant n) more
+
+-- G8 "The grant that admits an address of a role is the lowest-numbered one by which the role is granted it; nobody admits it exactly if
+-- there is none."
+abbrev pub which : List Grant → ℕ → ℕ → Which
+which gs role a = whichFrom 0 gs role a
+
+-- some grant does
+abbrev pub isGrant : Which → Bool
+isGrant (by.Grant n) = true
+isGrant by.Nobody = false
 
 -- what a batch is judged by
 pub record Terms : Type 0 where

@@ -13,11 +13,12 @@ pub mod Answers
 pub mod Reader
 pub mod Engine
 pub mod Writer
+pub mod Query
 pub mod Text
 pub mod Lister
 pub mod Listings
 pub mod ListingReader
 pub mod Exported
-pub mod Reasons
 pub mod Fitter
+pub mod Reasons
 pub mod Cases

@@ -15,13 +15,14 @@ use Rattle.meaning.specs.declared.Found.the-variants.{At, Missing}
 use Rattle.meaning.specs.declared.Kind.{Kind}
 use Rattle.meaning.specs.declared.Kind.the-variants.{Setting, Parameter}
 use Rattle.meaning.specs.Words.{count, offset, videoOffset, following}
-use Rattle.meaning.specs.Registers.{cells, cell, isFound, findVideo, registerAt}
+use Rattle.meaning.specs.Registers.{cells, cell, address, isFound, findVideo, registerAt}
 use Rattle.meaning.specs.Grants.{Terms, termsOf, grantsFine}
 use Rattle.meaning.specs.Batch.{reaches, Fits, offset3D, most3D, allowed, named}
 use Rattle.meaning.specs.State.{stateWords, valueAt, markAt, wellFormed}
 use Rattle.meaning.specs.Positions.{positionAt, goes, carries}
 use Rattle.meaning.specs.Engine.{mostFed, Call, opening, feeding, closing, fedBy}
 use Rattle.meaning.specs.Writer.{written}
+use Rattle.meaning.specs.Fitter.{LowestOf, NoneOf}
 use Rattle.meaning.specs.Lister.{listing}
 use Rattle.meaning.specs.Listings.{Listed, LongestListing}
 
@@ -133,6 +134,25 @@ pub data WriterGives (st grants : List ℕ) (room : ℕ) : ℕ → ℕ → Type 
   -- Y0 "writer: the words written"
   done : T (wellFormed st) → T (grantsFine grants) → ((c : ℕ) → c < cells → CellFine (termsOf grants) st (cell c))
       → length (written st) ≤ room → WriterGives st grants room 0 (length (written st))
+
+-- ---- the query, of the cell of a number
+
+-- the cell is marked, and its register then holds an address of the role: Q3 "The address alone is looked at"
+pub record HoldsAddress (st : List ℕ) (c : Cell) (role a : ℕ) : Type 0 where
+  pub there : c .0 < cells
+  pub marked : 0 < markAt st c
+  pub held : registerAt c .holds (valueAt st c) ≡ address role a
+
+-- Y1, Y2 and Y0 of the query, for state and grants as they were handed in
+pub data QueryGives (st grants : List ℕ) (c : Cell) : ℕ → ℕ → Type 0 where
+  bad-state : ¬ T (wellFormed st) → QueryGives st grants c 1 0
+  bad-grants : T (wellFormed st) → ¬ T (grantsFine grants) → QueryGives st grants c 2 0
+  -- Y0 "query: the number of the grant, or 64": of the grant that admits the address,
+  admitted : {role a n : ℕ} → T (wellFormed st) → T (grantsFine grants) → HoldsAddress st c role a
+      → LowestOf (termsOf grants .grants) role a n → QueryGives st grants c 0 n
+  -- and Q2 "No grant is told if there is no such cell, the cell is not marked, the register holds no address, or no grant admits it."
+  nobody : T (wellFormed st) → T (grantsFine grants)
+      → ((role a : ℕ) → HoldsAddress st c role a → NoneOf (termsOf grants .grants) role a) → QueryGives st grants c 0 64
 
 -- ---- the lister, given room for so many bytes
 

@@ -79,6 +79,12 @@ pub enum Found {
     Missing,
 }
 
+// Which grant admits an address: the one with a number, or none.
+pub enum Which {
+    Grant(usize),
+    Nobody,
+}
+
 // What the next word of an open packet is: the setting, a parameter under a setting, a word for a video register.
 pub enum Kind {
     Setting,

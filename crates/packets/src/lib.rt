@@ -11,6 +11,7 @@ ghost use Rattle.grants.specs.Kept.{Bounded, Keeps};
 ghost use Rattle.bodies.specs.Passes.{answerOf, bodyFrom, Places};
 ghost use Rattle.packets.specs.Packets.{headed, packetFrom, packetsFrom};
 use grants::Bounds;
+use grants::Numbers;
 use grants::Spans;
 use headers::Group;
 use headers::Header;
@@ -54,6 +55,7 @@ fn read_3d(
     end: usize,
     starts: &Spans,
     lasts: &Spans,
+    numbers: &Numbers,
     bounds: &Bounds,
     state: &mut State,
 ) -> Answer
@@ -73,7 +75,17 @@ fn read_3d(
         };
     }
     let part = grants::part_of(bounds, 1);
-    bodies::take_parameters(batch, at + 1, end, group, starts, lasts, part, state)
+    bodies::take_parameters(
+        batch,
+        at + 1,
+        end,
+        group,
+        starts,
+        lasts,
+        numbers,
+        part,
+        state,
+    )
 }
 
 // A header at place `at`, and the words of its body that are at hand, up to place `end`.
@@ -84,6 +96,7 @@ fn read_headed(
     end: usize,
     starts: &Spans,
     lasts: &Spans,
+    numbers: &Numbers,
     bounds: &Bounds,
     state: &mut State,
 ) -> Answer
@@ -96,7 +109,7 @@ fn read_headed(
     let opened = headers::header_of(header);
     match opened {
         Header::Refused(reason) => Answer { reason, place: at },
-        Header::Setting => read_3d(batch, at + 1, end, starts, lasts, bounds, state),
+        Header::Setting => read_3d(batch, at + 1, end, starts, lasts, numbers, bounds, state),
         Header::Overlay(index) => bodies::take_overlay(batch, at + 1, end, index, state),
         // Both scalers go through one loop, so that it is compiled in place.
         Header::Scaler(run) => {
@@ -110,6 +123,7 @@ fn read_headed(
                 run.index,
                 starts,
                 lasts,
+                numbers,
                 part,
                 state,
             )
@@ -134,6 +148,7 @@ pub fn read_packet(
     at: usize,
     starts: &Spans,
     lasts: &Spans,
+    numbers: &Numbers,
     bounds: &Bounds,
     state: &mut State,
 ) -> Answer
@@ -147,7 +162,17 @@ pub fn read_packet(
     let n = fields::count(header) as usize;
     let next = at + 1 + n;
     let end = end_of(next, batch.len() / 4);
-    let body = read_headed(batch, at, header, end, starts, lasts, bounds, state);
+    let body = read_headed(
+        batch,
+        at,
+        header,
+        end,
+        starts,
+        lasts,
+        numbers,
+        bounds,
+        state,
+    );
     if body.reason != 0 {
         return body;
     }
@@ -162,6 +187,7 @@ pub fn read_packets(
     batch: &[u8],
     starts: &Spans,
     lasts: &Spans,
+    numbers: &Numbers,
     bounds: &Bounds,
     state: &mut State,
 ) -> Answer
@@ -172,7 +198,7 @@ pub fn read_packets(
     let words = batch.len() / 4;
     let mut at = 0;
     while at < words {
-        let packet = read_packet(batch, at, starts, lasts, bounds, state);
+        let packet = read_packet(batch, at, starts, lasts, numbers, bounds, state);
         if packet.reason != 0 {
             return packet;
         }

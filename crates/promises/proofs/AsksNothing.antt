@@ -39,7 +39,7 @@ use Rattle.states.proofs.store.Reads as store
 use Rattle.registers.proofs.name_of.Reads as name-of
 use Rattle.registers.proofs.offset_of.Reads as offset-of
 use Rattle.grants.proofs.part_of.Reads as part-of
-use Rattle.grants.proofs.covered.Reads as covered
+use Rattle.grants.proofs.which.Reads as which
 use Rattle.keeping.proofs.keep.Reads as keep
 use Rattle.rules.proofs.must_be_clear.Reads as must-be-clear
 use Rattle.rules.proofs.alpha_constants.Reads as alpha-constants
@@ -52,6 +52,7 @@ use Rattle.sampling.proofs.levels.Reads as levels
 use Rattle.sampling.proofs.filters.Reads as filters
 use Rattle.sampling.proofs.mapping.Reads as mapping
 use Rattle.rows_3d.proofs.alpha_constants_reason.Reads as alpha-constants-reason
+use Rattle.rows_3d.proofs.target_address.Reads as target-address
 use Rattle.rows_3d.proofs.target_address_reason.Reads as target-address-reason
 use Rattle.rows_3d.proofs.location_reason.Reads as location-reason
 use Rattle.rows_3d.proofs.format_reason.Reads as format-reason
@@ -63,6 +64,7 @@ use Rattle.rows_video.proofs.overlay_reason.Reads as overlay-reason
 use Rattle.rows_video.proofs.alpha_select_reason.Reads as alpha-select-reason
 use Rattle.rows_video.proofs.deinterlace_reason.Reads as deinterlace-reason
 use Rattle.rows_video.proofs.sub_picture_reason.Reads as sub-picture-reason
+use Rattle.rows_video.proofs.scaler_address.Reads as scaler-address
 use Rattle.rows_video.proofs.first_address_reason.Reads as first-address-reason
 use Rattle.rows_video.proofs.address_reason.Reads as address-reason
 use Rattle.rows_video.proofs.destination_stride_reason.Reads as destination-stride-reason
@@ -91,6 +93,7 @@ use Rattle.engine.proofs.close.Reads as engine-close
 use Rattle.reader.proofs.read.Reads as read
 use Rattle.writer.proofs.write.Reads as write
 use Rattle.lister.proofs.list.Reads as list
+use Rattle.query.proofs.which_grant.Reads as which-grant
 use Rattle.line_reader.specs.Named.{digitTable}
 use Rattle.line_reader.proofs.read_line.Reads as read-line
 use Rattle.line_places.proofs.furthest.Reads as furthest
@@ -99,6 +102,7 @@ use Rattle.irangelda.proofs.irangelda_read.Reads as irangelda-read
 use Rattle.irangelda.proofs.irangelda_write.Reads as irangelda-write
 use Rattle.irangelda.proofs.irangelda_list.Reads as irangelda-list
 use Rattle.irangelda.proofs.irangelda_read_listing.Reads as irangelda-read-listing
+use Rattle.irangelda.proofs.irangelda_which_grant.Reads as irangelda-which-grant
 
 -- a contract that asks this of its caller, and no more
 abbrev AsksExactly {ℓ} : {K : Type ℓ} {A : K → Type ℓ} (P Q : (κ : K) → A κ → Type ℓ) → Type ℓ
@@ -123,6 +127,9 @@ list-asks κs a = nothing-asked
 pub read-listing-asks : AsksNothing read-listing.Asked
 read-listing-asks κs a = nothing-asked
 
+pub which-grant-asks : AsksNothing which-grant.Asked
+which-grant-asks κs a = nothing-asked
+
 -- of the engine, whatever engine they are handed
 pub engine-open-asks : AsksNothing engine-open.Asked
 engine-open-asks κs a = nothing-asked
@@ -146,15 +153,20 @@ irangelda-list-asks = calls.irangelda-list-asks
 pub irangelda-read-listing-asks : AsksNothing irangelda-read-listing.Asked
 irangelda-read-listing-asks = calls.irangelda-read-listing-asks
 
--- D1 "asks nothing of its caller": all eleven
-pub asks-nothing : AsksNothing read.Asked × AsksNothing write.Asked × AsksNothing list.Asked × AsksNothing read-listing.Asked
+pub irangelda-which-grant-asks : AsksNothing irangelda-which-grant.Asked
+irangelda-which-grant-asks = calls.irangelda-which-grant-asks
+
+-- D1 "asks nothing of its caller": all thirteen
+pub asks-nothing : AsksNothing read.Asked × AsksNothing write.Asked × AsksNothing list.Asked × AsksNothing read-listing.Asked × AsksNothing which-grant.Asked
     × AsksNothing engine-open.Asked × AsksNothing engine-feed.Asked × AsksNothing engine-close.Asked
     × AsksNothing irangelda-read.Asked × AsksNothing irangelda-write.Asked × AsksNothing irangelda-list.Asked × AsksNothing irangelda-read-listing.Asked
+    × AsksNothing irangelda-which-grant.Asked
 asks-nothing = (
   read-asks,
   write-asks,
   list-asks,
   read-listing-asks,
+  which-grant-asks,
   engine-open-asks,
   engine-feed-asks,
   engine-close-asks,
@@ -162,6 +174,7 @@ asks-nothing = (
   irangelda-write-asks,
   irangelda-list-asks,
   irangelda-read-listing-asks,
+  irangelda-which-grant-asks,
 )
 
 -- ==== What they are made of
@@ -224,12 +237,12 @@ offset-of-asks κs a = asks-this
 pub part-of-asks : AsksExactly part-of.Asked (λ _ (_, (role, _)). role < 4)
 part-of-asks κs a = asks-this
 
-pub covered-asks : AsksExactly covered.Asked (λ _ (_, (_, (part, _))). part .to ≤ mostGrants)
-covered-asks κs a = asks-this
+pub which-asks : AsksExactly which.Asked (λ _ (_, (_, (_, (part, _)))). part .to ≤ mostGrants)
+which-asks κs a = asks-this
 
 -- ---- keeping
 
-pub keep-asks : AsksExactly keep.Asked (λ _ (_, (_, (_, (bounds, _)))). now bounds ≡ noBounds)
+pub keep-asks : AsksExactly keep.Asked (λ _ (_, (_, (_, (_, (bounds, _))))). now bounds ≡ noBounds)
 keep-asks κs a = asks-this
 
 -- ---- rules
@@ -271,7 +284,10 @@ mapping-asks κs a = nothing-asked
 pub alpha-constants-reason-asks : AsksNothing alpha-constants-reason.Asked
 alpha-constants-reason-asks κs a = nothing-asked
 
-pub target-address-reason-asks : AsksExactly target-address-reason.Asked (λ _ (value, (_, (_, (part, _)))). (value < 2 ^ 24) × (part .to ≤ mostGrants))
+pub target-address-asks : AsksExactly target-address.Asked (λ _ (value, _). value < 2 ^ 24)
+target-address-asks κs a = asks-this
+
+pub target-address-reason-asks : AsksExactly target-address-reason.Asked (λ _ (value, (_, (_, (_, (part, _))))). (value < 2 ^ 24) × (part .to ≤ mostGrants))
 target-address-reason-asks κs a = asks-this
 
 pub location-reason-asks : AsksNothing location-reason.Asked
@@ -306,10 +322,13 @@ deinterlace-reason-asks κs a = nothing-asked
 pub sub-picture-reason-asks : AsksNothing sub-picture-reason.Asked
 sub-picture-reason-asks κs a = nothing-asked
 
-pub first-address-reason-asks : AsksExactly first-address-reason.Asked (λ _ (_, (_, (_, (part, _)))). part .to ≤ mostGrants)
+pub scaler-address-asks : AsksNothing scaler-address.Asked
+scaler-address-asks κs a = nothing-asked
+
+pub first-address-reason-asks : AsksExactly first-address-reason.Asked (λ _ (_, (_, (_, (_, (part, _))))). part .to ≤ mostGrants)
 first-address-reason-asks κs a = asks-this
 
-pub address-reason-asks : AsksExactly address-reason.Asked (λ _ (_, (_, (_, (part, _)))). part .to ≤ mostGrants)
+pub address-reason-asks : AsksExactly address-reason.Asked (λ _ (_, (_, (_, (_, (part, _))))). part .to ≤ mostGrants)
 address-reason-asks κs a = asks-this
 
 pub destination-stride-reason-asks : AsksNothing destination-stride-reason.Asked
@@ -328,42 +347,42 @@ group-of-asks κs a = nothing-asked
 
 -- ---- judging
 
-pub judge-parameter-asks : AsksExactly judge-parameter.Asked (λ _ (group, (_, (value, (_, (_, (part, _)))))). IsGroup group × ((value < 2 ^ 24) × (part .to ≤ mostGrants)))
+pub judge-parameter-asks : AsksExactly judge-parameter.Asked (λ _ (group, (_, (value, (_, (_, (_, (part, _))))))). IsGroup group × ((value < 2 ^ 24) × (part .to ≤ mostGrants)))
 judge-parameter-asks κs a = asks-this
 
 pub overlay-word-asks : AsksExactly overlay-word.Asked (λ _ (index, _). index < 3)
 overlay-word-asks κs a = asks-this
 
-pub scaler-word-asks : AsksExactly scaler-word.Asked (λ _ (index, (_, (_, (_, (part, _))))). (index < 7) × (part .to ≤ mostGrants))
+pub scaler-word-asks : AsksExactly scaler-word.Asked (λ _ (index, (_, (_, (_, (_, (part, _)))))). (index < 7) × (part .to ≤ mostGrants))
 scaler-word-asks κs a = asks-this
 
 -- ---- cells
 
-pub fine-asks : AsksExactly fine.Asked (λ _ (state, (cell, (row, (_, (_, (part, _)))))). T (wellFormed (wordsOf (now state))) × (IsRow row (cell .0) × (part .to ≤ mostGrants)))
+pub fine-asks : AsksExactly fine.Asked (λ _ (state, (cell, (row, (_, (_, (_, (part, _))))))). T (wellFormed (wordsOf (now state))) × (IsRow row (cell .0) × (part .to ≤ mostGrants)))
 fine-asks κs a = asks-this
 
 -- ---- bodies
 
-pub take-parameters-asks : AsksExactly take-parameters.Asked (λ _ (batch, (first, (end, (group, (_, (_, (part, _))))))). Places first end (now batch) × (IsGroup group × (part .to ≤ mostGrants)))
+pub take-parameters-asks : AsksExactly take-parameters.Asked (λ _ (batch, (first, (end, (group, (_, (_, (_, (part, _)))))))). Places first end (now batch) × (IsGroup group × (part .to ≤ mostGrants)))
 take-parameters-asks κs a = asks-this
 
 pub take-overlay-asks : AsksExactly take-overlay.Asked (λ _ (batch, (first, (end, (index, _)))). Places first end (now batch) × (index + (end - first) ≤ 3))
 take-overlay-asks κs a = asks-this
 
-pub take-scaler-asks : AsksExactly take-scaler.Asked (λ _ (batch, (first, (end, (base, (index, (_, (_, (part, _)))))))). Places first end (now batch) × ((index + (end - first) ≤ 7) × (IsScaler (base .0) × (part .to ≤ mostGrants))))
+pub take-scaler-asks : AsksExactly take-scaler.Asked (λ _ (batch, (first, (end, (base, (index, (_, (_, (_, (part, _))))))))). Places first end (now batch) × ((index + (end - first) ≤ 7) × (IsScaler (base .0) × (part .to ≤ mostGrants))))
 take-scaler-asks κs a = asks-this
 
 -- ---- packets
 
-pub read-packet-asks : AsksExactly read-packet.Asked (λ _ (batch, (at, (_, (_, (bounds, _))))). (at < length (now batch) / 4) × Bounded (now bounds))
+pub read-packet-asks : AsksExactly read-packet.Asked (λ _ (batch, (at, (_, (_, (_, (bounds, _)))))). (at < length (now batch) / 4) × Bounded (now bounds))
 read-packet-asks κs a = asks-this
 
-pub read-packets-asks : AsksExactly read-packets.Asked (λ _ (_, (_, (_, (bounds, _)))). Bounded (now bounds))
+pub read-packets-asks : AsksExactly read-packets.Asked (λ _ (_, (_, (_, (_, (bounds, _))))). Bounded (now bounds))
 read-packets-asks κs a = asks-this
 
 -- ---- search
 
-pub lowest-bad-asks : AsksExactly lowest-bad.Asked (λ _ (state, (_, (_, (bounds, _)))). T (wellFormed (wordsOf (now state))) × Bounded (now bounds))
+pub lowest-bad-asks : AsksExactly lowest-bad.Asked (λ _ (state, (_, (_, (_, (bounds, _))))). T (wellFormed (wordsOf (now state))) × Bounded (now bounds))
 lowest-bad-asks κs a = asks-this
 
 -- ---- needs

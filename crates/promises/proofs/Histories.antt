@@ -21,9 +21,9 @@ use Rattle.meaning.specs.Engine as engine
 use Rattle.meaning.proofs.States.{Formed, formed-iff}
 use Rattle.grants.specs.declared.Part.{Part}
 use Rattle.grants.specs.Kept.{Granting, Keeps}
-use Rattle.grants.proofs.Keeping.{kept-some}
+use Rattle.grants.proofs.Keeping.{kept-some, names-keep}
 use Rattle.keeping.specs.Keeping.{Kept, keptAfter}
-use Rattle.keeping.proofs.Keeping.{keeps, begun-first}
+use Rattle.keeping.proofs.Keeping.{names, bounded, begun-first}
 use Rattle.asking.specs.Asked.{capped}
 use Rattle.asking.proofs.Next.{again-setting}
 use Rattle.feeding.specs.Steps.{leaves}
@@ -79,7 +79,7 @@ module _ (st grants : List ℕ) where
 
   module _ (w : wellFormed st ≡ true) (g : grantsFine grants ≡ true) where
     abbrev kept : Kept
-    kept = keptAfter grants (zeros mostGrants) (zeros mostGrants)
+    kept = keptAfter grants (zeros mostGrants) (zeros mostGrants) (zeros mostGrants)
 
     formed : Formed st
     formed = formed-iff st .0 (holds-of w)
@@ -88,12 +88,13 @@ module _ (st grants : List ℕ) where
     kept-bytes : Keeps (termsOf grants) (kept .starts) (kept .lasts) (capped (byteBounds (kept .bounds)))
     unfolding capped
     kept-bytes =
-        let k = keeps grants (zeros mostGrants) (zeros mostGrants) refl refl (holds-of g) in
-        let first = begun-first grants (zeros mostGrants) (zeros mostGrants) g in
+        let k = names-keep (termsOf grants) (kept .starts) (kept .lasts) (kept .numbers) (kept .bounds) (names grants (zeros mostGrants) (zeros mostGrants) (zeros mostGrants) g (refl, (refl, refl))) in
+        let inside = bounded grants (zeros mostGrants) (zeros mostGrants) (zeros mostGrants) g in
+        let first = begun-first grants (zeros mostGrants) (zeros mostGrants) (zeros mostGrants) g in
         record {
-          targets = byte-grants (termsOf grants) 1 (kept .starts) (kept .lasts) _ _ (first 1 (omega arith)) (k .1 1 (omega arith)) (k .0 .targets);
-          firsts = byte-grants (termsOf grants) 2 (kept .starts) (kept .lasts) _ _ (first 2 (omega arith)) (k .1 2 (omega arith)) (k .0 .firsts);
-          seconds = byte-grants (termsOf grants) 3 (kept .starts) (kept .lasts) _ _ (first 3 (omega arith)) (k .1 3 (omega arith)) (k .0 .seconds);
+          targets = byte-grants (termsOf grants) 1 (kept .starts) (kept .lasts) _ _ (first 1 (omega arith)) (inside 1 (omega arith)) (k .targets);
+          firsts = byte-grants (termsOf grants) 2 (kept .starts) (kept .lasts) _ _ (first 2 (omega arith)) (inside 2 (omega arith)) (k .firsts);
+          seconds = byte-grants (termsOf grants) 3 (kept .starts) (kept .lasts) _ _ (first 3 (omega arith)) (inside 3 (omega arith)) (k .seconds);
         }
 
     open-kept : Holds st grants [] (before success (take cells st) (packed st cells (zeros 4)) kept)

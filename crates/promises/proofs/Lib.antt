@@ -6,6 +6,7 @@ pub mod Standing
 pub mod Histories
 pub mod Engine
 pub mod Listings
+pub mod Query
 pub mod OneAnswer
 pub mod Promises
 pub mod Switches

@@ -38,8 +38,9 @@ use Rattle.states.proofs.store.Reads as store
 use Rattle.states.proofs.well_formed.Reads as well-formed
 use Rattle.states.proofs.marked_between.Reads as marked-between
 use Rattle.grants.proofs.part_of.Reads as part-of
-use Rattle.grants.proofs.covered.Reads as covered
+use Rattle.grants.proofs.which.Reads as which
 use Rattle.rows_3d.proofs.alpha_constants_reason.Reads as alpha-constants-reason
+use Rattle.rows_3d.proofs.target_address.Reads as target-address
 use Rattle.rows_3d.proofs.target_address_reason.Reads as target-address-reason
 use Rattle.rows_3d.proofs.location_reason.Reads as location-reason
 use Rattle.rows_3d.proofs.format_reason.Reads as format-reason
@@ -51,6 +52,7 @@ use Rattle.rows_video.proofs.overlay_reason.Reads as overlay-reason
 use Rattle.rows_video.proofs.alpha_select_reason.Reads as alpha-select-reason
 use Rattle.rows_video.proofs.deinterlace_reason.Reads as deinterlace-reason
 use Rattle.rows_video.proofs.sub_picture_reason.Reads as sub-picture-reason
+use Rattle.rows_video.proofs.scaler_address.Reads as scaler-address
 use Rattle.rows_video.proofs.first_address_reason.Reads as first-address-reason
 use Rattle.rows_video.proofs.address_reason.Reads as address-reason
 use Rattle.rows_video.proofs.destination_stride_reason.Reads as destination-stride-reason
@@ -76,6 +78,7 @@ use Rattle.reader.proofs.read.Reads as read
 use Rattle.search.proofs.lowest_bad.Reads as lowest-bad
 use Rattle.writer.proofs.write.Reads as write
 use Rattle.lister.proofs.list.Reads as list
+use Rattle.query.proofs.which_grant.Reads as which-grant
 use Rattle.line_reader.proofs.Whole.{line-once}
 use Rattle.line_reader.proofs.read_line.Reads as read-line
 use Rattle.line_places.proofs.furthest.Reads as furthest
@@ -91,6 +94,7 @@ use Rattle.irangelda.proofs.irangelda_read.Reads as irangelda-read
 use Rattle.irangelda.proofs.irangelda_write.Reads as irangelda-write
 use Rattle.irangelda.proofs.irangelda_list.Reads as irangelda-list
 use Rattle.irangelda.proofs.irangelda_read_listing.Reads as irangelda-read-listing
+use Rattle.irangelda.proofs.irangelda_which_grant.Reads as irangelda-which-grant
 
 -- what is equal to one thing is equal
 one-answer {ℓ} : {A : Type ℓ} {x y z : A} → x ≡ z → y ≡ z → x ≡ y
@@ -179,8 +183,8 @@ marked-between-one κs a r r' s s' p q = one-answer p q
 pub part-of-one : Determined part-of.Learnt
 part-of-one κs a r r' s s' p q = one-answer p q
 
-pub covered-one : Determined covered.Learnt
-covered-one κs a r r' s s' p q = one-answer p q
+pub which-one : Determined which.Learnt
+which-one κs a r r' s s' p q = one-answer p q
 
 -- ---- rows
 
@@ -191,9 +195,12 @@ ungranted = record { grants = [] }
 pub alpha-constants-reason-one : Determined alpha-constants-reason.Learnt
 alpha-constants-reason-one κs a r r' s s' p q = one-answer (p ungranted) (q ungranted)
 
+pub target-address-one : Determined target-address.Learnt
+target-address-one κs a r r' s s' p q = one-answer p q
+
 pub target-address-reason-one : Determined target-address-reason.Learnt
 target-address-reason-one κs a r r' s s' p q =
-    let k = part-some 1 (now (a .1 .0)) (now (a .1 .1 .0)) (a .1 .1 .1 .0) in
+    let k = part-some 1 (now (a .1 .0)) (now (a .1 .1 .0)) (a .1 .1 .1 .1 .0) in
     one-answer (p (k .0) (k .1)) (q (k .0) (k .1))
 
 pub location-reason-one : Determined location-reason.Learnt
@@ -226,14 +233,17 @@ deinterlace-reason-one κs a r r' s s' p q = one-answer (p ungranted 87 2 first)
 pub sub-picture-reason-one : Determined sub-picture-reason.Learnt
 sub-picture-reason-one κs a r r' s s' p q = one-answer (p ungranted 87 2 first) (q ungranted 87 2 first)
 
+pub scaler-address-one : Determined scaler-address.Learnt
+scaler-address-one κs a r r' s s' p q = one-answer p q
+
 pub first-address-reason-one : Determined first-address-reason.Learnt
 first-address-reason-one κs a r r' s s' p q =
-    let k = part-some 2 (now (a .1 .0)) (now (a .1 .1 .0)) (a .1 .1 .1 .0) in
+    let k = part-some 2 (now (a .1 .0)) (now (a .1 .1 .0)) (a .1 .1 .1 .1 .0) in
     one-answer (p (k .0) 87 2 first (k .1)) (q (k .0) 87 2 first (k .1))
 
 pub address-reason-one : Determined address-reason.Learnt
 address-reason-one κs a r r' s s' p q =
-    let k = part-some 2 (now (a .1 .0)) (now (a .1 .1 .0)) (a .1 .1 .1 .0) in
+    let k = part-some 2 (now (a .1 .0)) (now (a .1 .1 .0)) (a .1 .1 .1 .1 .0) in
     one-answer (p .0 (k .0) 87 2 first (k .1)) (q .0 (k .0) 87 2 first (k .1))
 
 pub destination-stride-reason-one : Determined destination-stride-reason.Learnt
@@ -252,7 +262,7 @@ group-of-one κs a r r' s s' p q = one-answer p q
 
 pub judge-parameter-one : Determined judge-parameter.Learnt
 judge-parameter-one κs a r r' s s' p q =
-    let k = part-some 1 (now (a .1 .1 .1 .0)) (now (a .1 .1 .1 .1 .0)) (a .1 .1 .1 .1 .1 .0) in
+    let k = part-some 1 (now (a .1 .1 .1 .0)) (now (a .1 .1 .1 .1 .0)) (a .1 .1 .1 .1 .1 .1 .0) in
     one-answer (p (k .0) (k .1)) (q (k .0) (k .1))
 
 pub overlay-word-one : Determined overlay-word.Learnt
@@ -260,7 +270,7 @@ overlay-word-one κs a r r' s s' p q = one-answer (p ungranted) (q ungranted)
 
 pub scaler-word-one : Determined scaler-word.Learnt
 scaler-word-one κs a r r' s s' p q =
-    let k = part-some 2 (now (a .1 .1 .0)) (now (a .1 .1 .1 .0)) (a .1 .1 .1 .1 .0) in
+    let k = part-some 2 (now (a .1 .1 .0)) (now (a .1 .1 .1 .0)) (a .1 .1 .1 .1 .1 .0) in
     one-answer (p (k .0) 87 2 first (k .1)) (q (k .0) 87 2 first (k .1))
 
 -- ---- cells, the lowest bad one, and words that are needed
@@ -269,12 +279,12 @@ scaler-word-one κs a r r' s s' p q =
 pub fine-one : (κs : _) (a : _) (r r' : _) (s s' : _) → fine.Asked κs a → fine.Learnt κs a r s → fine.Learnt κs a r' s' → r ≡ r'
 fine-one κs a r r' s s' asked p q =
     let row = asked .1 .0 in
-    let k = part-some (row .0) (now (a .1 .1 .1 .0)) (now (a .1 .1 .1 .1 .0)) (a .1 .1 .1 .1 .1 .0) in
+    let k = part-some (row .0) (now (a .1 .1 .1 .0)) (now (a .1 .1 .1 .1 .0)) (a .1 .1 .1 .1 .1 .1 .0) in
     one-answer (p (k .0) (row .0) (row .1) (λ other. k .1)) (q (k .0) (row .0) (row .1) (λ other. k .1))
 
 pub lowest-bad-one : Determined lowest-bad.Learnt
 lowest-bad-one κs a r r' s s' p q =
-    let k = kept-some (now (a .1 .0)) (now (a .1 .1 .0)) (now (a .1 .1 .1 .0)) in
+    let k = kept-some (now (a .1 .0)) (now (a .1 .1 .0)) (now (a .1 .1 .1 .1 .0)) in
     one-answer (p (k .0) (k .1)) (q (k .0) (k .1))
 
 abbrev need : ℕ → ℕ → Need
@@ -296,7 +306,14 @@ store-one κs a r r' s s' p q = one-answer p q
 
 pub keep-one : (κs : _) (a : _) (r r' : _) (s s' : _) → keep.Learnt κs a r s → keep.Learnt κs a r' s'
     → (r ≡ r') × (now (s .1 .0) ≡ now (s' .1 .0)) × (now (s .1 .1 .0) ≡ now (s' .1 .1 .0)) × (now (s .1 .1 .1 .0) ≡ now (s' .1 .1 .1 .0))
-keep-one κs a r r' s s' p q = (one-answer (p .0) (q .0), one-answer (p .1 .0) (q .1 .0), one-answer (p .1 .1 .0) (q .1 .1 .0), one-answer (p .1 .1 .1) (q .1 .1 .1))
+    × (now (s .1 .1 .1 .1 .0) ≡ now (s' .1 .1 .1 .1 .0))
+keep-one κs a r r' s s' p q = (
+  one-answer (p .0) (q .0),
+  one-answer (p .1 .0) (q .1 .0),
+  one-answer (p .1 .1 .0) (q .1 .1 .0),
+  one-answer (p .1 .1 .1 .0) (q .1 .1 .1 .0),
+  one-answer (p .1 .1 .1 .1) (q .1 .1 .1 .1),
+)
 
 -- where what is left is told by the answer, the answers are equal first
 pub read-one : (κs : _) (a : _) (r r' : _) (s s' : _) → read.Learnt κs a r s → read.Learnt κs a r' s' → (r ≡ r') × (now (s .1 .1 .0) ≡ now (s' .1 .1 .0))
@@ -307,6 +324,9 @@ write-one κs a r r' s s' p q = let same = one-answer (p .0) (q .0) in (same, on
 
 pub list-one : (κs : _) (a : _) (r r' : _) (s s' : _) → list.Learnt κs a r s → list.Learnt κs a r' s' → (r ≡ r') × (now (s .1 .0) ≡ now (s' .1 .0))
 list-one κs a r r' s s' p q = (one-answer (p .0) (q .0), one-answer (p .1) (q .1))
+
+pub which-grant-one : Determined which-grant.Learnt
+which-grant-one κs a r r' s s' p q = one-answer p q
 
 -- no text has two lines at its front
 pub read-line-one : Determined read-line.Learnt
@@ -332,10 +352,10 @@ put-line-video-one κs a r r' s s' p q = one-answer p q
 
 -- the group that its callers must hand it is one of the table, and some setting names it
 pub take-parameters-one : (κs : _) (a : _) (r r' : _) (s s' : _) → take-parameters.Asked κs a → take-parameters.Learnt κs a r s → take-parameters.Learnt κs a r' s'
-    → (r ≡ r') × (now (s .1 .1 .1 .1 .1 .1 .1 .0) ≡ now (s' .1 .1 .1 .1 .1 .1 .1 .0))
+    → (r ≡ r') × (now (s .1 .1 .1 .1 .1 .1 .1 .1 .0) ≡ now (s' .1 .1 .1 .1 .1 .1 .1 .1 .0))
 take-parameters-one κs a r r' s s' asked p q =
     let named = some-setting (a .1 .1 .1 .0) (asked .1 .0) in
-    let k = part-some 1 (now (a .1 .1 .1 .1 .0)) (now (a .1 .1 .1 .1 .1 .0)) (a .1 .1 .1 .1 .1 .1 .0) in (
+    let k = part-some 1 (now (a .1 .1 .1 .1 .0)) (now (a .1 .1 .1 .1 .1 .0)) (a .1 .1 .1 .1 .1 .1 .1 .0) in (
       one-answer (p .0 (k .0) (named .0) (named .1) (k .1)) (q .0 (k .0) (named .0) (named .1) (k .1)),
       one-answer (p .1 (k .0) (named .0) (named .1) (k .1)) (q .1 (k .0) (named .0) (named .1) (k .1)),
     )
@@ -345,26 +365,26 @@ take-overlay-one κs a r r' s s' p q = (one-answer (p .0 ungranted) (q .0 ungran
 
 -- the cell that its callers must hand it is a scaler's first
 pub take-scaler-one : (κs : _) (a : _) (r r' : _) (s s' : _) → take-scaler.Asked κs a → take-scaler.Learnt κs a r s → take-scaler.Learnt κs a r' s'
-    → (r ≡ r') × (now (s .1 .1 .1 .1 .1 .1 .1 .1 .0) ≡ now (s' .1 .1 .1 .1 .1 .1 .1 .1 .0))
+    → (r ≡ r') × (now (s .1 .1 .1 .1 .1 .1 .1 .1 .1 .0) ≡ now (s' .1 .1 .1 .1 .1 .1 .1 .1 .1 .0))
 take-scaler-one κs a r r' s s' asked p q =
     let sc = the-scaler (asked .1 .1 .0) in
-    let k = part-some _ (now (a .1 .1 .1 .1 .1 .0)) (now (a .1 .1 .1 .1 .1 .1 .0)) (a .1 .1 .1 .1 .1 .1 .1 .0) in
+    let k = part-some _ (now (a .1 .1 .1 .1 .1 .0)) (now (a .1 .1 .1 .1 .1 .1 .0)) (a .1 .1 .1 .1 .1 .1 .1 .1 .0) in
     (one-answer (p .0 (k .0) _ sc (k .1)) (q .0 (k .0) _ sc (k .1)), one-answer (p .1 (k .0) _ sc (k .1)) (q .1 (k .0) _ sc (k .1)))
 
-pub read-packet-one : (κs : _) (a : _) (r r' : _) (s s' : _) → read-packet.Learnt κs a r s → read-packet.Learnt κs a r' s' → (r ≡ r') × (now (s .1 .1 .1 .1 .1 .0) ≡ now (s' .1 .1 .1 .1 .1 .0))
+pub read-packet-one : (κs : _) (a : _) (r r' : _) (s s' : _) → read-packet.Learnt κs a r s → read-packet.Learnt κs a r' s' → (r ≡ r') × (now (s .1 .1 .1 .1 .1 .1 .0) ≡ now (s' .1 .1 .1 .1 .1 .1 .0))
 read-packet-one κs a r r' s s' p q =
-    let k = kept-some (now (a .1 .1 .0)) (now (a .1 .1 .1 .0)) (now (a .1 .1 .1 .1 .0)) in
+    let k = kept-some (now (a .1 .1 .0)) (now (a .1 .1 .1 .0)) (now (a .1 .1 .1 .1 .1 .0)) in
     (one-answer (p .0 (k .0) (k .1)) (q .0 (k .0) (k .1)), one-answer (p .1 .0 (k .0) (k .1)) (q .1 .0 (k .0) (k .1)))
 
-pub read-packets-one : (κs : _) (a : _) (r r' : _) (s s' : _) → read-packets.Learnt κs a r s → read-packets.Learnt κs a r' s' → (r ≡ r') × (now (s .1 .1 .1 .1 .0) ≡ now (s' .1 .1 .1 .1 .0))
+pub read-packets-one : (κs : _) (a : _) (r r' : _) (s s' : _) → read-packets.Learnt κs a r s → read-packets.Learnt κs a r' s' → (r ≡ r') × (now (s .1 .1 .1 .1 .1 .0) ≡ now (s' .1 .1 .1 .1 .1 .0))
 read-packets-one κs a r r' s s' p q =
-    let k = kept-some (now (a .1 .0)) (now (a .1 .1 .0)) (now (a .1 .1 .1 .0)) in
+    let k = kept-some (now (a .1 .0)) (now (a .1 .1 .0)) (now (a .1 .1 .1 .1 .0)) in
     (one-answer (p .0 (k .0) (k .1)) (q .0 (k .0) (k .1)), one-answer (p .1 (k .0) (k .1)) (q .1 (k .0) (k .1)))
 
 -- whatever an engine keeps keeps some grants
 pub ask-one : Determined ask.Learnt
 ask-one κs a r r' s s' p q =
-    let k = kept-some (now (a .1 .1 .1 .0)) (now (a .1 .1 .1 .1 .0)) (capped (now (a .1 .1 .1 .1 .1 .0))) in
+    let k = kept-some (now (a .1 .1 .1 .0)) (now (a .1 .1 .1 .1 .0)) (capped (now (a .1 .1 .1 .1 .1 .1 .0))) in
     one-answer (p (k .0) (k .1)) (q (k .0) (k .1))
 
 -- all of the engine, so also every answer to a later call
@@ -394,3 +414,6 @@ irangelda-list-one κs a r r' s s' p q = (one-answer (p .0) (q .0), one-answer (
 pub irangelda-read-listing-one : (κs : _) (a : _) (r r' : _) (s s' : _) → irangelda-read-listing.Learnt κs a r s → irangelda-read-listing.Learnt κs a r' s'
     → (r ≡ r') × (now (s .1 .0) ≡ now (s' .1 .0))
 irangelda-read-listing-one κs a r r' s s' p q = (one-answer (p .0) (q .0), one-answer (p .1) (q .1))
+
+pub irangelda-which-grant-one : Determined irangelda-which-grant.Learnt
+irangelda-which-grant-one κs a r r' s s' p q = one-answer p q

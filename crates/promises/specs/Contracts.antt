@@ -1,5 +1,5 @@
--- What the contracts of reader, writer, lister, listing reader and engine allow, and those of the calls of the driver: an answer, and what is left in
--- the buffer that is lent to be changed.
+-- What the contracts of reader, writer, lister, listing reader, engine and query allow, and those of the calls of the driver: an answer, and what
+-- is left in the buffer that is lent to be changed.
 -- Assumes nothing.
 use mathlib.Core.Path.{_≡_}
 use mathlib.Core.Logic.{_↔_}
@@ -9,16 +9,20 @@ use Prim.Native.Nat.{ℕ, _/_, _%_}
 use lib.Dec.{T}
 use lib.ListN.{length, replicate}
 use Rattle.laws.specs.Lists.{All, every, over}
+use Rattle.meaning.specs.declared.Which.{Which}
 use Rattle.meaning.specs.declared.Answer.{Answer}
 use Rattle.meaning.specs.Words.{Byte, wordsOf, bytesOf}
-use Rattle.meaning.specs.Grants.{Terms}
+use Rattle.meaning.specs.Registers.{cell}
+use Rattle.meaning.specs.Grants.{Terms, mostGrants}
 use Rattle.meaning.specs.Answers.{answer, numberOf, settle}
 use Rattle.meaning.specs.Reader.{readAnswer, readLeaves}
 use Rattle.meaning.specs.Writer.{written, writeAnswer}
+use Rattle.meaning.specs.Query.{queryAnswer}
 use Rattle.meaning.specs.Lister.{listAnswer, listLeaves}
 use Rattle.meaning.specs.ListingReader.{listingAnswer, listingLeaves}
-use Rattle.meaning.specs.Exported.{bufferFine, wordBufferFine, exportedRead, exportedReadLeaves, exportedWrite, exportedWriteLeaves, exportedList, exportedListLeaves, exportedReadListing, exportedReadListingLeaves}
-use Rattle.grants.specs.Kept.{Keeps}
+use Rattle.meaning.specs.Exported.{bufferFine, wordBufferFine, exportedRead, exportedReadLeaves, exportedWrite, exportedWriteLeaves, exportedList, exportedListLeaves, exportedReadListing, exportedReadListingLeaves, exportedWhichGrant}
+use Rattle.grants.specs.Kept.{Keeps, partOf, whichIn}
+use Rattle.keeping.specs.Keeping.{keptAfter}
 use Rattle.asking.specs.Asked.{capped}
 use Rattle.feeding.specs.Steps.{closes, leaves}
 use Rattle.engine.specs.declared.Engine.{Engine}
@@ -46,6 +50,19 @@ Listing st out a left = (a ≡ listAnswer (wordsOf st) (length out)) × (left �
 abbrev pub ReadingListing : List ℕ → List ℕ → Answer → List ℕ → Type 0
 ReadingListing text st a left =
     (a ≡ listingAnswer text (wordsOf st)) × (left ≡ settle a (over (bytesOf (listingLeaves text (wordsOf st))) st) st)
+
+-- `query::which_grant` on the bytes of a state and of a grant list, and on any number, answers a. No buffer is lent to be changed
+abbrev pub Querying : List ℕ → List ℕ → ℕ → Answer → Type 0
+Querying st grants c a = a ≡ queryAnswer (wordsOf st) (wordsOf grants) (cell c)
+
+-- the test that all of them use: in the part of a role of what `keeping::keep` left of a grant list, in whatever room it was lent,
+-- `grants::which` answers w to an address
+pub record Testing (ws : List ℕ) (role a : ℕ) (w : Which) : Type 0 where
+  pub starts : List ℕ
+  pub lasts : List ℕ
+  pub numbers : List ℕ
+  pub room : (length starts ≡ mostGrants) × ((length lasts ≡ mostGrants) × (length numbers ≡ mostGrants))
+  pub told : let k = keptAfter ws starts lasts numbers in w ≡ whichIn (k .starts) (k .lasts) (k .numbers) (partOf (k .bounds) role) a
 
 -- ---- the engine
 
@@ -88,6 +105,10 @@ ListingBytes st out n left = (n ≡ numberOf (exportedList st out)) × (left ≡
 abbrev pub ReadingListingBytes : List ℕ → List ℕ → ℕ → List ℕ → Type 0
 ReadingListingBytes text st n left = (n ≡ numberOf (exportedReadListing text st)) × (left ≡ exportedReadListingLeaves text st)
 
+-- `irangelda_which_grant` on the bytes of a state and of a grant list, and on any number, answers n
+abbrev pub QueryingBytes : List ℕ → List ℕ → ℕ → ℕ → Type 0
+QueryingBytes st grants c n = n ≡ numberOf (exportedWhichGrant st grants (cell c))
+
 -- what 13 lets through: not Y13 "a buffer has more than 65,536 bytes, or a buffer of words has a length that is no multiple of 4". The
 -- buffers of reader and writer are words,
 abbrev pub WordBuffers : List ℕ → List ℕ → List ℕ → Type 0
@@ -96,6 +117,10 @@ WordBuffers a b c = T (every wordBufferFine (a ∷ b ∷ c ∷ []))
 -- and so is the state of lister and listing reader; their other buffer is text
 abbrev pub ListerBuffers : List ℕ → List ℕ → Type 0
 ListerBuffers st text = T (wordBufferFine st && bufferFine text)
+
+-- and both buffers of the query
+abbrev pub QueryBuffers : List ℕ → List ℕ → Type 0
+QueryBuffers st grants = T (wordBufferFine st && wordBufferFine grants)
 
 -- C3 "A C call answers one number: place × 256 + reason.": its reason and its place are those of a
 abbrev pub Tells : ℕ → Answer → Type 0

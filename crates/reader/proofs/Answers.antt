@@ -19,7 +19,7 @@ use Rattle.meaning.specs.Positions.{writesOf}
 use Rattle.meaning.specs.Answers.{badState, badGrants, answer, settle}
 use Rattle.meaning.specs.Reader.{batchAnswer, readAnswer, readLeaves}
 use Rattle.grants.specs.Kept.{Keeps}
-use Rattle.keeping.proofs.Keeping.{KeptFrom, kept-after}
+use Rattle.keeping.proofs.Keeping.{Lent, KeptFrom, kept-after}
 use Rattle.bodies.specs.Passes.{answerOf}
 use Rattle.packets.specs.Packets.{packetsFrom}
 use Rattle.packets.proofs.Packets.{answered, wrote, same-size}
@@ -50,15 +50,15 @@ module _ (batch grants bytes : List ℕ) where
   grants-refused e f = rw (e, f) (refl, refl)
 
   -- the state is copied, the grants are kept, and the packets are read under whatever is kept so
-  module _ (e : wellFormed st ≡ true) (f : grantsFine (wordsOf grants) ≡ true) {own : List ℕ} (loaded : own ≡ st) (starts lasts : List ℕ) {s l b : List ℕ}
-      (ns : length starts ≡ mostGrants) (nl : length lasts ≡ mostGrants) (kept : KeptFrom (wordsOf grants) starts lasts s l b) {a : Answer} {after : List ℕ}
+  module _ (e : wellFormed st ≡ true) (f : grantsFine (wordsOf grants) ≡ true) {own : List ℕ} (loaded : own ≡ st) (starts lasts numbers : List ℕ) {s l n b : List ℕ}
+      (lent : Lent starts lasts numbers) (kept : KeptFrom (wordsOf grants) starts lasts numbers s l n b) {a : Answer} {after : List ℕ}
       (read : ((g : Terms) → Keeps g s l b → a ≡ answerOf (packetsFrom g 0 Setting 0 (wordsOf batch) own))
       × ((g : Terms) → Keeps g s l b → after ≡ packetsFrom g 0 Setting 0 (wordsOf batch) own .state)) where
     ea : a ≡ answerOf (packetsFrom (termsOf (wordsOf grants)) 0 Setting 0 (wordsOf batch) own)
-    ea = read .0 _ (kept-after (wordsOf grants) starts lasts ns nl f kept .0)
+    ea = read .0 _ (kept-after (wordsOf grants) starts lasts numbers lent f kept .0)
 
     el : after ≡ packetsFrom (termsOf (wordsOf grants)) 0 Setting 0 (wordsOf batch) own .state
-    el = read .1 _ (kept-after (wordsOf grants) starts lasts ns nl f kept .0)
+    el = read .1 _ (kept-after (wordsOf grants) starts lasts numbers lent f kept .0)
 
     told : a ≡ batchAnswer (termsOf (wordsOf grants)) (wordsOf batch)
     told = ea ∙ answered (termsOf (wordsOf grants)) (wordsOf batch) own

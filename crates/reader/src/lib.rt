@@ -30,13 +30,14 @@ pub fn read(batch: &[u8], grants: &[u8], state: &mut [u8]) -> Answer
     }
     let mut starts = [0u32; MOST_GRANTS];
     let mut lasts = [0u32; MOST_GRANTS];
+    let mut numbers = [0u8; MOST_GRANTS];
     let mut bounds = [0usize; BOUNDS];
-    if !keeping::keep(grants, &mut starts, &mut lasts, &mut bounds) {
+    if !keeping::keep(grants, &mut starts, &mut lasts, &mut numbers, &mut bounds) {
         return refused(BAD_GRANTS);
     }
     let mut own = [0u32; STATE_WORDS];
     states::load(state, &mut own);
-    let answer = packets::read_packets(batch, &starts, &lasts, &bounds, &mut own);
+    let answer = packets::read_packets(batch, &starts, &lasts, &numbers, &bounds, &mut own);
     if answer.reason == 0 {
         states::store(&own, state);
     }

@@ -7,12 +7,14 @@ ghost use Rattle.meaning.specs.Grants.{Terms, mostGrants};
 ghost use Rattle.meaning.specs.Answers.{badValue, success};
 ghost use Rattle.meaning.specs.Reader.{unless, valueReason};
 ghost use Rattle.grants.specs.Kept.{Granting};
+use grants::Numbers;
 use grants::Part;
 use grants::Spans;
 use meaning::BAD_VALUE;
 use meaning::BIT_SET;
 use meaning::NOT_GRANTED;
 use meaning::SUCCESS;
+use meaning::Which;
 use rules::alpha_constants;
 use rules::format_byte;
 use rules::location;
@@ -41,14 +43,31 @@ pub fn alpha_constants_reason(value: u32) -> u32
     ruled_reason(alpha_constants(value))
 }
 
-// 01.00.50, cell 1. The address is in steps of 256, so that a value of 24 bits names any of them. Here and below `starts` and `lasts` are
-// the grants as they are kept, and `part` those of the address's role.
-pub fn target_address_reason(value: u32, starts: &Spans, lasts: &Spans, part: Part) -> u32
+// The target's address is in steps of 256, so that a value of 24 bits names any of them.
+const TARGET_STEP: u32 = 256;
+
+// The address in 01.00.50.
+pub fn target_address(value: u32) -> u32
+    requires narrow { ⌜ value < 2 ^ 24 ⌝ }
+    ensures address { λ r. ⌜ r ≡ value * 256 ⌝ }
+{
+    value * TARGET_STEP
+}
+
+// 01.00.50, cell 1. `starts`, `lasts` and `numbers` are the grants as they are kept, and `part` those of the address's role.
+pub fn target_address_reason(
+    value: u32,
+    starts: &Spans,
+    lasts: &Spans,
+    numbers: &Numbers,
+    part: Part,
+) -> u32
     requires narrow { ⌜ value < 2 ^ 24 ⌝ }
     requires inside { ⌜ part .to ≤ mostGrants ⌝ }
     ensures reason { λ r. ⌜ ((g : Terms) → Granting g 1 (now (starts .entry)) (now (lasts .entry)) part → r ≡ valueReason g (registerAt (cell 1)) value) ⌝ }
 {
-    if !grants::covered(starts, lasts, part, value * 256) {
+    let found = grants::which(starts, lasts, numbers, part, target_address(value));
+    if let Which::Nobody = found {
         return NOT_GRANTED;
     }
     SUCCESS

@@ -1,21 +1,24 @@
 // What speaks against a value of a video register: a function for each row of the table; 0 where nothing does. Which register a word is
 // for is the callers' matter.
 ghost use mathlib.Core.Path.{_≡_};
-ghost use Prim.Native.Nat.{ℕ, _+_, _≤_, _<_};
+ghost use Prim.Native.Nat.{ℕ, _+_, _*_, _≤_, _<_};
 ghost use lib.Dec.{eqb};
 ghost use lib.Bits.{bitAnd};
+ghost use Rattle.meaning.specs.Words.{bits};
 ghost use Rattle.meaning.specs.Registers.{cell, registerAt};
 ghost use Rattle.meaning.specs.Grants.{Terms, mostGrants};
 ghost use Rattle.meaning.specs.Answers.{bitSet, success};
 ghost use Rattle.meaning.specs.Reader.{unless, valueReason};
 ghost use Rattle.grants.specs.Kept.{Granting};
 ghost use Rattle.rows_video.specs.Scalers.{Scaler, addressRegister};
+use grants::Numbers;
 use grants::Part;
 use grants::Spans;
 use meaning::BAD_VALUE;
 use meaning::BIT_SET;
 use meaning::NOT_GRANTED;
 use meaning::SUCCESS;
+use meaning::Which;
 use rules::alpha_select;
 use rules::memory_location;
 use rules::must_be_clear;
@@ -50,9 +53,23 @@ pub fn alpha_select_reason(value: u32) -> u32
     SUCCESS
 }
 
-// A scaler's register that holds an address: bits 28:4 kept in place, the rest 0. Here and below `starts` and `lasts` are the grants as
-// they are kept, and `part` those of the address's role.
-fn scaler_address_reason(value: u32, mask: u32, starts: &Spans, lasts: &Spans, part: Part) -> u32
+// The address in a scaler's register: bits 28:4 kept in place, the rest 0.
+pub fn scaler_address(value: u32) -> u32
+    ensures address { λ r. ⌜ r ≡ bits 28 4 value * 16 ⌝ }
+{
+    value / 16 % 0x2000000 * 16
+}
+
+// A scaler's register that holds an address. Here and below `starts`, `lasts` and `numbers` are the grants as they are kept, and `part`
+// those of the address's role.
+fn scaler_address_reason(
+    value: u32,
+    mask: u32,
+    starts: &Spans,
+    lasts: &Spans,
+    numbers: &Numbers,
+    part: Part,
+) -> u32
     requires inside { ⌜ part .to ≤ mostGrants ⌝ }
     ensures reason { λ r. ⌜ ((g : Terms) (role : ℕ) → Granting g role (now (starts .entry)) (now (lasts .entry)) part → r ≡ valueReason g (addressRegister role mask) value) ⌝ }
 {
@@ -62,7 +79,8 @@ fn scaler_address_reason(value: u32, mask: u32, starts: &Spans, lasts: &Spans, p
     if !memory_location(value) {
         return BAD_VALUE;
     }
-    if !grants::covered(starts, lasts, part, value / 16 % 0x2000000 * 16) {
+    let found = grants::which(starts, lasts, numbers, part, scaler_address(value));
+    if let Which::Nobody = found {
         return NOT_GRANTED;
     }
     SUCCESS
@@ -85,20 +103,32 @@ pub fn sub_picture_reason(value: u32) -> u32
 }
 
 // 23EC and 33EC: cells 89 and 96.
-pub fn first_address_reason(value: u32, starts: &Spans, lasts: &Spans, part: Part) -> u32
+pub fn first_address_reason(
+    value: u32,
+    starts: &Spans,
+    lasts: &Spans,
+    numbers: &Numbers,
+    part: Part,
+) -> u32
     requires inside { ⌜ part .to ≤ mostGrants ⌝ }
     ensures reason { λ r. ⌜ ((g : Terms) (c role : ℕ) → Scaler c role → Granting g role (now (starts .entry)) (now (lasts .entry)) part → r ≡ valueReason g (registerAt (cell (c + 2))) value) ⌝ }
 {
-    scaler_address_reason(value, 0x2000000c, starts, lasts, part)
+    scaler_address_reason(value, 0x2000000c, starts, lasts, numbers, part)
 }
 
 // 23F0, 23FC, 33F0 and 33FC: cells 90, 93, 97 and 100, which are alike.
-pub fn address_reason(value: u32, starts: &Spans, lasts: &Spans, part: Part) -> u32
+pub fn address_reason(
+    value: u32,
+    starts: &Spans,
+    lasts: &Spans,
+    numbers: &Numbers,
+    part: Part,
+) -> u32
     requires inside { ⌜ part .to ≤ mostGrants ⌝ }
     ensures second { λ r. ⌜ ((g : Terms) (c role : ℕ) → Scaler c role → Granting g role (now (starts .entry)) (now (lasts .entry)) part → r ≡ valueReason g (registerAt (cell (c + 3))) value) ⌝ }
     ensures third { λ r. ⌜ ((g : Terms) (c role : ℕ) → Scaler c role → Granting g role (now (starts .entry)) (now (lasts .entry)) part → r ≡ valueReason g (registerAt (cell (c + 6))) value) ⌝ }
 {
-    scaler_address_reason(value, 0xe000000c, starts, lasts, part)
+    scaler_address_reason(value, 0xe000000c, starts, lasts, numbers, part)
 }
 
 // 23F4 and 33F4: cells 91 and 98.

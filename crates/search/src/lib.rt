@@ -12,28 +12,51 @@ ghost use Rattle.cells.specs.Rows.{RowOf};
 ghost use Rattle.search.specs.Search.{lowest, IsStage, IsSample};
 use cells::Row;
 use grants::Bounds;
+use grants::Numbers;
 use grants::Part;
 use grants::Spans;
 use meaning::Cell;
 use meaning::FIRST_VIDEO;
 
 // The lowest of the cells of 01.00 that may not be written, or the cell after them; the same below for the other sections of the table.
-// `starts` and `lasts` are the grants as they are kept, and `part` those of the addresses' role.
-fn bad_in_target(state: &[u8], starts: &Spans, lasts: &Spans, part: Part) -> usize
+// `starts`, `lasts` and `numbers` are the grants as they are kept, and `part` those of the addresses' role.
+fn bad_in_target(
+    state: &[u8],
+    starts: &Spans,
+    lasts: &Spans,
+    numbers: &Numbers,
+    part: Part,
+) -> usize
     requires formed { ⌜ T (wellFormed (wordsOf (now state))) ⌝ }
     requires inside { ⌜ part .to ≤ mostGrants ⌝ }
     ensures lowest { λ r. ⌜ ((g : Terms) → Granting g 1 (now (starts .entry)) (now (lasts .entry)) part → r ≡ lowest g (wordsOf (now (state .entry))) 0 4) ⌝ }
 {
-    if !cells::fine(state, Cell(0), Row::AlphaConstants, starts, lasts, part) {
+    if !cells::fine(
+        state,
+        Cell(0),
+        Row::AlphaConstants,
+        starts,
+        lasts,
+        numbers,
+        part,
+    ) {
         return 0;
     }
-    if !cells::fine(state, Cell(1), Row::TargetAddress, starts, lasts, part) {
+    if !cells::fine(
+        state,
+        Cell(1),
+        Row::TargetAddress,
+        starts,
+        lasts,
+        numbers,
+        part,
+    ) {
         return 1;
     }
-    if !cells::fine(state, Cell(2), Row::Location, starts, lasts, part) {
+    if !cells::fine(state, Cell(2), Row::Location, starts, lasts, numbers, part) {
         return 2;
     }
-    if !cells::fine(state, Cell(3), Row::Format, starts, lasts, part) {
+    if !cells::fine(state, Cell(3), Row::Format, starts, lasts, numbers, part) {
         return 3;
     }
     4
@@ -47,6 +70,7 @@ fn bad_in_two(
     high: Row,
     starts: &Spans,
     lasts: &Spans,
+    numbers: &Numbers,
 ) -> usize
     requires formed { ⌜ T (wellFormed (wordsOf (now state))) ⌝ }
     requires low { ⌜ RowOf low first 0 ⌝ }
@@ -54,76 +78,151 @@ fn bad_in_two(
     ensures lowest { λ r. ⌜ ((g : Terms) → r ≡ lowest g (wordsOf (now (state .entry))) first 2) ⌝ }
 {
     let none = Part { from: 0, to: 0 };
-    if !cells::fine(state, Cell(first), low, starts, lasts, none) {
+    if !cells::fine(state, Cell(first), low, starts, lasts, numbers, none) {
         return first;
     }
-    if !cells::fine(state, Cell(first + 1), high, starts, lasts, none) {
+    if !cells::fine(state, Cell(first + 1), high, starts, lasts, numbers, none) {
         return first + 1;
     }
     first + 2
 }
 
 // A stage, whose first cell is `first`.
-fn bad_in_stage(state: &[u8], first: usize, starts: &Spans, lasts: &Spans) -> usize
+fn bad_in_stage(
+    state: &[u8],
+    first: usize,
+    starts: &Spans,
+    lasts: &Spans,
+    numbers: &Numbers,
+) -> usize
     requires formed { ⌜ T (wellFormed (wordsOf (now state))) ⌝ }
     requires stage { ⌜ IsStage first ⌝ }
     ensures lowest { λ r. ⌜ ((g : Terms) → r ≡ lowest g (wordsOf (now (state .entry))) first 2) ⌝ }
 {
-    bad_in_two(state, first, Row::Stage, Row::Stage, starts, lasts)
+    bad_in_two(state, first, Row::Stage, Row::Stage, starts, lasts, numbers)
 }
 
 // A sample.
-fn bad_in_sample(state: &[u8], first: usize, starts: &Spans, lasts: &Spans) -> usize
+fn bad_in_sample(
+    state: &[u8],
+    first: usize,
+    starts: &Spans,
+    lasts: &Spans,
+    numbers: &Numbers,
+) -> usize
     requires formed { ⌜ T (wellFormed (wordsOf (now state))) ⌝ }
     requires sample { ⌜ IsSample first ⌝ }
     ensures lowest { λ r. ⌜ ((g : Terms) → r ≡ lowest g (wordsOf (now (state .entry))) first 3) ⌝ }
 {
-    let bad = bad_in_two(state, first, Row::Levels, Row::Filters, starts, lasts);
+    let bad = bad_in_two(
+        state,
+        first,
+        Row::Levels,
+        Row::Filters,
+        starts,
+        lasts,
+        numbers,
+    );
     if bad < first + 2 {
         return bad;
     }
     let none = Part { from: 0, to: 0 };
-    if !cells::fine(state, Cell(first + 2), Row::Mapping, starts, lasts, none) {
+    if !cells::fine(
+        state,
+        Cell(first + 2),
+        Row::Mapping,
+        starts,
+        lasts,
+        numbers,
+        none,
+    ) {
         return first + 2;
     }
     first + 3
 }
 
 // 2208, 220C and 2210.
-fn bad_in_overlay(state: &[u8], starts: &Spans, lasts: &Spans) -> usize
+fn bad_in_overlay(state: &[u8], starts: &Spans, lasts: &Spans, numbers: &Numbers) -> usize
     requires formed { ⌜ T (wellFormed (wordsOf (now state))) ⌝ }
     ensures lowest { λ r. ⌜ ((g : Terms) → r ≡ lowest g (wordsOf (now (state .entry))) 84 3) ⌝ }
 {
     let none = Part { from: 0, to: 0 };
-    if !cells::fine(state, Cell(84), Row::Overlay, starts, lasts, none) {
+    if !cells::fine(state, Cell(84), Row::Overlay, starts, lasts, numbers, none) {
         return 84;
     }
-    if !cells::fine(state, Cell(85), Row::Overlay, starts, lasts, none) {
+    if !cells::fine(state, Cell(85), Row::Overlay, starts, lasts, numbers, none) {
         return 85;
     }
-    if !cells::fine(state, Cell(86), Row::AlphaSelect, starts, lasts, none) {
+    if !cells::fine(
+        state,
+        Cell(86),
+        Row::AlphaSelect,
+        starts,
+        lasts,
+        numbers,
+        none,
+    ) {
         return 86;
     }
     87
 }
 
 // The seven registers of a scaler, whose first cell is `own`.
-fn bad_in_scaler(state: &[u8], own: usize, starts: &Spans, lasts: &Spans, part: Part) -> usize
+fn bad_in_scaler(
+    state: &[u8],
+    own: usize,
+    starts: &Spans,
+    lasts: &Spans,
+    numbers: &Numbers,
+    part: Part,
+) -> usize
     requires formed { ⌜ T (wellFormed (wordsOf (now state))) ⌝ }
     requires scaler { ⌜ IsScaler own ⌝ }
     requires inside { ⌜ part .to ≤ mostGrants ⌝ }
     ensures lowest { λ r. ⌜ ((g : Terms) (role : ℕ) → Scaler own role → Granting g role (now (starts .entry)) (now (lasts .entry)) part → r ≡ lowest g (wordsOf (now (state .entry))) own 7) ⌝ }
 {
-    if !cells::fine(state, Cell(own), Row::Deinterlace, starts, lasts, part) {
+    if !cells::fine(
+        state,
+        Cell(own),
+        Row::Deinterlace,
+        starts,
+        lasts,
+        numbers,
+        part,
+    ) {
         return own;
     }
-    if !cells::fine(state, Cell(own + 1), Row::SubPicture, starts, lasts, part) {
+    if !cells::fine(
+        state,
+        Cell(own + 1),
+        Row::SubPicture,
+        starts,
+        lasts,
+        numbers,
+        part,
+    ) {
         return own + 1;
     }
-    if !cells::fine(state, Cell(own + 2), Row::FirstAddress, starts, lasts, part) {
+    if !cells::fine(
+        state,
+        Cell(own + 2),
+        Row::FirstAddress,
+        starts,
+        lasts,
+        numbers,
+        part,
+    ) {
         return own + 2;
     }
-    if !cells::fine(state, Cell(own + 3), Row::Address, starts, lasts, part) {
+    if !cells::fine(
+        state,
+        Cell(own + 3),
+        Row::Address,
+        starts,
+        lasts,
+        numbers,
+        part,
+    ) {
         return own + 3;
     }
     if !cells::fine(
@@ -132,14 +231,31 @@ fn bad_in_scaler(state: &[u8], own: usize, starts: &Spans, lasts: &Spans, part: 
         Row::DestinationStride,
         starts,
         lasts,
+        numbers,
         part,
     ) {
         return own + 4;
     }
-    if !cells::fine(state, Cell(own + 5), Row::SourceStride, starts, lasts, part) {
+    if !cells::fine(
+        state,
+        Cell(own + 5),
+        Row::SourceStride,
+        starts,
+        lasts,
+        numbers,
+        part,
+    ) {
         return own + 5;
     }
-    if !cells::fine(state, Cell(own + 6), Row::Address, starts, lasts, part) {
+    if !cells::fine(
+        state,
+        Cell(own + 6),
+        Row::Address,
+        starts,
+        lasts,
+        numbers,
+        part,
+    ) {
         return own + 6;
     }
     own + 7
@@ -147,38 +263,51 @@ fn bad_in_scaler(state: &[u8], own: usize, starts: &Spans, lasts: &Spans, part: 
 
 // The lowest cell that may not be written, or 101: section after section, in the order of the cells. Sections that are alike follow one
 // another in a loop, which is compiled for them alone; one loop that asks each section what it is costs a state of few cells a quarter more.
-pub fn lowest_bad(state: &[u8], starts: &Spans, lasts: &Spans, bounds: &Bounds) -> usize
+pub fn lowest_bad(
+    state: &[u8],
+    starts: &Spans,
+    lasts: &Spans,
+    numbers: &Numbers,
+    bounds: &Bounds,
+) -> usize
     requires formed { ⌜ T (wellFormed (wordsOf (now state))) ⌝ }
     requires bounded { ⌜ Bounded (now bounds) ⌝ }
     ensures lowest { λ r. ⌜ ((g : Terms) → Keeps g (now (starts .entry)) (now (lasts .entry)) (now (bounds .entry)) → r ≡ lowest g (wordsOf (now (state .entry))) 0 cells) ⌝ }
 {
-    let target = bad_in_target(state, starts, lasts, grants::part_of(bounds, 1));
+    let target = bad_in_target(state, starts, lasts, numbers, grants::part_of(bounds, 1));
     if target < 4 {
         return target;
     }
     let mut c = 4;
     while c < 36 {
-        let bad = bad_in_stage(state, c, starts, lasts);
+        let bad = bad_in_stage(state, c, starts, lasts, numbers);
         if bad < c + 2 {
             return bad;
         }
         c += 2;
     }
     while c < FIRST_VIDEO {
-        let bad = bad_in_sample(state, c, starts, lasts);
+        let bad = bad_in_sample(state, c, starts, lasts, numbers);
         if bad < c + 3 {
             return bad;
         }
         c += 3;
     }
-    let overlay = bad_in_overlay(state, starts, lasts);
+    let overlay = bad_in_overlay(state, starts, lasts, numbers);
     if overlay < 87 {
         return overlay;
     }
     c = 87;
     let mut role = 2;
     while role < 4 {
-        let bad = bad_in_scaler(state, c, starts, lasts, grants::part_of(bounds, role));
+        let bad = bad_in_scaler(
+            state,
+            c,
+            starts,
+            lasts,
+            numbers,
+            grants::part_of(bounds, role),
+        );
         if bad < c + 7 {
             return bad;
         }

@@ -35,11 +35,12 @@ pub fn write(state: &[u8], grants: &[u8], out: &mut [u8]) -> Answer
     }
     let mut starts = [0u32; MOST_GRANTS];
     let mut lasts = [0u32; MOST_GRANTS];
+    let mut numbers = [0u8; MOST_GRANTS];
     let mut bounds = [0usize; BOUNDS];
-    if !keeping::keep(grants, &mut starts, &mut lasts, &mut bounds) {
+    if !keeping::keep(grants, &mut starts, &mut lasts, &mut numbers, &mut bounds) {
         return refused(BAD_GRANTS);
     }
-    let lowest = search::lowest_bad(state, &starts, &lasts, &bounds);
+    let lowest = search::lowest_bad(state, &starts, &lasts, &numbers, &bounds);
     if lowest < CELLS {
         return Answer {
             reason: NOT_WRITABLE,

@@ -48,8 +48,8 @@ enum-known-opened c = search needs
 overlay-reason-requires : tie.Need-overlay-reason-requires
 overlay-reason-requires c κs = let o = c .before in in-row _ (o .before .before .before .offset .ensures) (as-overlay o)
 
-add-t17 : tie.Need-add-t17
-add-t17 c = let o = c .before .before in omega (arith, in-row _ (o .before .before .before .offset .ensures) (as-overlay o))
+add-t18 : tie.Need-add-t18
+add-t18 c = let o = c .before .before in omega (arith, in-row _ (o .before .before .before .offset .ensures) (as-overlay o))
 
 for-video-requires : tie.Need-for-video-requires
 for-video-requires c κs = offset-small _ (c .before .before .before .before .before .offset .ensures)
@@ -63,8 +63,8 @@ part-of-requires c κs = scaler-role (as-scaler (c .before) .1)
 scaler-reason-requires : tie.Need-scaler-reason-requires
 scaler-reason-requires c κs = let o = c .before .before in (in-row _ (o .before .before .before .offset .ensures) (as-scaler o .0), c .part-of .ensures .1)
 
-add-t20 : tie.Need-add-t20
-add-t20 c =
+add-t21 : tie.Need-add-t21
+add-t21 c =
     let o = c .before .before .before in
     omega (arith, in-row _ (o .before .before .before .offset .ensures) (as-scaler o .0), scaler-cells (as-scaler o .1) .1)
 
@@ -113,12 +113,12 @@ at-video-spec =
     refused-requires-2
     enum-known-opened
     overlay-reason-requires
-    add-t17
+    add-t18
     for-video-requires
     enum-known-opened-2
     part-of-requires
     scaler-reason-requires
-    add-t20
+    add-t21
     for-video-requires-2
     returns
     returns-2

@@ -19,11 +19,11 @@ use Rattle.bodies.proofs.take_parameters.Statement.{statement}
 use Rattle.bodies.proofs.take_parameters.Tie as tie
 
 abbrev Inv-loop : tie.InvT-loop
-Inv-loop batch first end group starts lasts part state₀ at₀ state at =
+Inv-loop batch first end group starts lasts numbers part state₀ at₀ state at =
     (at ≤ end) × ((g : Terms) (s : ℕ) → Leads s group → Granting g 1 starts lasts part → bodyFrom g at (Parameter s) (slice at end (wordsOf batch)) state ≡ bodyFrom g first (Parameter s) (slice first end (wordsOf batch)) state₀)
 
 abbrev μ-loop : tie.MeasureT-loop
-μ-loop batch first end group starts lasts part state₀ at₀ state at =
+μ-loop batch first end group starts lasts numbers part state₀ at₀ state at =
     end - at
 
 -- what is asked of the word at hand

@@ -23,12 +23,12 @@ use Rattle.bodies.proofs.take_scaler.Statement.{statement}
 use Rattle.bodies.proofs.take_scaler.Tie as tie
 
 abbrev Inv-loop : tie.InvT-loop
-Inv-loop batch first end index starts lasts part state₀ own k₀ at₀ state k at =
+Inv-loop batch first end index starts lasts numbers part state₀ own k₀ at₀ state k at =
     (first ≤ at) × (at ≤ end) × (k ≡ index + (at - first))
     × ((g : Terms) (role : ℕ) → Scaler (own) role → Granting g role starts lasts part → bodyFrom g at (Video (nth (offsetOf (cell (own + index))) (at - first))) (slice at end (wordsOf batch)) state ≡ bodyFrom g first (Video (offsetOf (cell (own + index)))) (slice first end (wordsOf batch)) state₀)
 
 abbrev μ-loop : tie.MeasureT-loop
-μ-loop batch first end index starts lasts part state₀ own k₀ at₀ state k at =
+μ-loop batch first end index starts lasts numbers part state₀ own k₀ at₀ state k at =
     end - at
 
 -- what is asked of the word at hand
@@ -74,8 +74,8 @@ returns c = let r = c .before in
       λ g role sc given. as-state (body-stop g _ _ _ (among-words (s .args .batch .now) _ (s .pre .0 .1)) _ _ _ (l .loop .inv .3 g role sc given) (omega arith) (asked r g role sc given) (c .if1 .taken)),
     )
 
-add-t18 : tie.Need-add-t18 Inv-loop μ-loop
-add-t18 c = omega (arith, cells-of (c .before .before .before .before .before .before .before))
+add-t19 : tie.Need-add-t19 Inv-loop μ-loop
+add-t19 c = omega (arith, cells-of (c .before .before .before .before .before .before .before))
 
 store-requires : tie.Need-store-requires Inv-loop μ-loop
 store-requires c κs = omega (arith, cells-of (c .before .before .before .before .before .before .before))
@@ -115,7 +115,7 @@ take-scaler-spec =
     word-requires
     scaler-reason-requires
     returns
-    add-t18
+    add-t19
     store-requires
     add-at
     add-k

@@ -17,9 +17,9 @@ ask-requires c κs = search needs
 returns-3 : tie.Need-returns-3
 returns-3 c =
     λ g k.
-    let e = c .before .before .before .before .before .before .before .before .before .args .t1 in
-    let w = c .before .before .before .before .before .before .before .before .before .args .word in
-    fed-refused g e w (c .before .before .before .before .before .before .before .before .if1 .left) (c .before .before .before .before .before .before .before .if2 .left) (c .before .before .ask .ensures g k) (c .if3 .taken)
+    let e = c .before .before .before .before .before .before .before .before .before .before .args .t1 in
+    let w = c .before .before .before .before .before .before .before .before .before .before .args .word in
+    fed-refused g e w (c .before .before .before .before .before .before .before .before .before .if1 .left) (c .before .before .before .before .before .before .before .before .if2 .left) (c .before .before .ask .ensures g k) (c .if3 .taken)
 
 add-engine : tie.Need-add-engine
 add-engine c = search needs
@@ -27,9 +27,9 @@ add-engine c = search needs
 returns-4 : tie.Need-returns-4
 returns-4 c =
     λ g k.
-    let e = c .before .before .before .before .before .before .before .before .before .before .args .t1 in
-    let w = c .before .before .before .before .before .before .before .before .before .before .args .word in
-    fed-unstored g e w (c .before .before .before .before .before .before .before .before .before .if1 .left) (c .before .before .before .before .before .before .before .before .if2 .left) (c .before .before .before .ask .ensures g k) (c .before .if3 .left) (c .if4 .taken)
+    let e = c .before .before .before .before .before .before .before .before .before .before .before .args .t1 in
+    let w = c .before .before .before .before .before .before .before .before .before .before .before .args .word in
+    fed-unstored g e w (c .before .before .before .before .before .before .before .before .before .before .if1 .left) (c .before .before .before .before .before .before .before .before .before .if2 .left) (c .before .before .before .ask .ensures g k) (c .before .if3 .left) (c .if4 .taken)
 
 mul-engine : tie.Need-mul-engine
 mul-engine c = search needs
@@ -43,9 +43,9 @@ set-mark-requires c κs = search needs
 returns-5 : tie.Need-returns-5
 returns-5 c =
     λ g k.
-    let e = c .before .before .before .before .before .before .before .before .before .before .before .before .args .t1 in
-    let w = c .before .before .before .before .before .before .before .before .before .before .before .before .args .word in
-    fed-stored g e w (c .before .before .before .before .before .before .before .before .before .before .before .if1 .left) (c .before .before .before .before .before .before .before .before .before .before .if2 .left) (c .before .before .before .before .before .ask .ensures g k) (c .before .before .before .if3 .left) (c .before .before .if4 .left) (c .set-mark .ensures)
+    let e = c .before .before .before .before .before .before .before .before .before .before .before .before .before .args .t1 in
+    let w = c .before .before .before .before .before .before .before .before .before .before .before .before .before .args .word in
+    fed-stored g e w (c .before .before .before .before .before .before .before .before .before .before .before .before .if1 .left) (c .before .before .before .before .before .before .before .before .before .before .before .if2 .left) (c .before .before .before .before .before .ask .ensures g k) (c .before .before .before .if3 .left) (c .before .before .if4 .left) (c .set-mark .ensures)
 
 pub feed-spec : {M : Type 1} → statement M
 feed-spec =

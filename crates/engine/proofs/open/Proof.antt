@@ -20,10 +20,10 @@ refused-requires : tie.Need-refused-requires
 refused-requires c κs = search needs
 
 returns : tie.Need-returns
-returns c = refused (wordsOf (c .before .before .before .before .before .before .before .before .before .before .args .state .now)) (wordsOf (c .before .before .before .before .before .before .before .before .before .before .args .grants .now)) (c .before .before .before .before .before .before .before .well-formed .ensures) (c .before .before .before .keep .ensures .0) (c .before .before .opening-reason .ensures) (c .before .if1 .taken) (c .refused .ensures)
+returns c = refused (wordsOf (c .before .before .before .before .before .before .before .before .before .before .before .args .state .now)) (wordsOf (c .before .before .before .before .before .before .before .before .before .before .before .args .grants .now)) (c .before .before .before .before .before .before .before .before .well-formed .ensures) (c .before .before .before .keep .ensures .0) (c .before .before .opening-reason .ensures) (c .before .if1 .taken) (c .refused .ensures)
 
 load-requires : tie.Need-load-requires
-load-requires c κs = (whole _ (is-formed (wordsOf (c .before .before .before .before .before .before .before .before .before .before .before .args .state .now)) (wordsOf (c .before .before .before .before .before .before .before .before .before .before .before .args .grants .now)) (c .before .before .before .before .before .before .before .before .well-formed .ensures) (c .before .before .before .before .keep .ensures .0) (c .before .before .before .opening-reason .ensures) (c .before .before .if1 .left)), refl)
+load-requires c κs = (whole _ (is-formed (wordsOf (c .before .before .before .before .before .before .before .before .before .before .before .before .args .state .now)) (wordsOf (c .before .before .before .before .before .before .before .before .before .before .before .before .args .grants .now)) (c .before .before .before .before .before .before .before .before .before .well-formed .ensures) (c .before .before .before .before .keep .ensures .0) (c .before .before .before .opening-reason .ensures) (c .before .before .if1 .left)), refl)
 
 byte-bounds-requires : tie.Need-byte-bounds-requires
 byte-bounds-requires c κs = search needs
@@ -31,7 +31,7 @@ byte-bounds-requires c κs = search needs
 returns-2 : tie.Need-returns-2
 returns-2 c =
     let l = c .before .before .load .ensures in
-    opened (wordsOf (c .before .before .before .before .before .before .before .before .before .before .before .before .before .before .args .state .now)) (wordsOf (c .before .before .before .before .before .before .before .before .before .before .before .before .before .before .args .grants .now)) (c .before .before .before .before .before .before .before .before .before .before .before .well-formed .ensures) (c .before .before .before .before .before .before .before .keep .ensures .0) (c .before .before .before .before .before .before .opening-reason .ensures) (c .before .before .before .before .before .if1 .left) (c .before .before .before .before .before .before .before .keep .ensures .1) (l .0) (l .1) (c .byte-bounds .ensures)
+    opened (wordsOf (c .before .before .before .before .before .before .before .before .before .before .before .before .before .before .before .args .state .now)) (wordsOf (c .before .before .before .before .before .before .before .before .before .before .before .before .before .before .before .args .grants .now)) (c .before .before .before .before .before .before .before .before .before .before .before .before .well-formed .ensures) (c .before .before .before .before .before .before .before .keep .ensures .0) (c .before .before .before .before .before .before .opening-reason .ensures) (c .before .before .before .before .before .if1 .left) (c .before .before .before .before .before .before .before .keep .ensures .1) (l .0) (l .1) (c .byte-bounds .ensures)
 
 pub open-spec : {M : Type 1} → statement M
 open-spec =

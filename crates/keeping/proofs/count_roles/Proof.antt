@@ -16,7 +16,7 @@ use Rattle.meaning.specs.Words.{wordsOf}
 use Rattle.meaning.specs.Grants.{grantsOf, grantFine, grantsFine}
 use Rattle.meaning.proofs.Bytes.{length-words}
 use Rattle.keeping.specs.Keeping.{withRole, noCounts}
-use Rattle.keeping.proofs.Grants.{grantAt, grant-read, grants-on, grants-end, length-grants, fine-grant}
+use Rattle.numbering.proofs.Grants.{grantAt, grant-read, grants-on, grants-end, length-grants, fine-grant}
 use Rattle.keeping.proofs.Room.{with-none, with-own, with-other, with-few}
 use Rattle.keeping.proofs.count_roles.Statement.{statement}
 use Rattle.keeping.proofs.count_roles.Tie as tie

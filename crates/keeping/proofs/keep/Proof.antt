@@ -1,6 +1,6 @@
 -- The counts make the beginnings of the parts, and the grants are then placed from there on.
 -- Assumes nothing.
-use mathlib.Core.Path.{_≡_, sym, ap, _∙_}
+use mathlib.Core.Path.{_≡_, refl, sym}
 use mathlib.Core.Bool.{true, false}
 use mathlib.Core.List.{List}
 use Prim.Native.Nat.{ℕ, _+_, _<_}
@@ -13,20 +13,27 @@ use Rattle.meaning.specs.Words.{wordsOf}
 use Rattle.meaning.specs.Grants.{Grant, grantsOf, grantsFine}
 use Rattle.meaning.proofs.Bytes.{length-words}
 use Rattle.keeping.specs.Keeping.{Kept, withRole, noBounds, beginnings, keptOf, keptAfter}
-use Rattle.keeping.proofs.Grants.{length-grants}
+use Rattle.numbering.proofs.Grants.{length-grants}
 use Rattle.keeping.proofs.Room.{with-all}
 use borrow.Author.Needs.{needs}
 use Rattle.keeping.proofs.keep.Statement.{statement}
 use Rattle.keeping.proofs.keep.Tie as tie
 
-module _ (ws starts lasts : List ℕ) where
-  refused : grantsFine ws ≡ false → keptAfter ws starts lasts ≡ record { starts = starts; lasts = lasts; bounds = noBounds }
+module _ (ws starts lasts numbers : List ℕ) where
+  refused : grantsFine ws ≡ false → keptAfter ws starts lasts numbers ≡ record { starts = starts; lasts = lasts; numbers = numbers; bounds = noBounds }
   unfolding keptAfter
   refused told = rw told
 
-  kept : grantsFine ws ≡ true → keptAfter ws starts lasts ≡ keptOf (grantsOf ws) starts lasts
+  kept : grantsFine ws ≡ true → keptAfter ws starts lasts numbers ≡ keptOf (grantsOf ws) starts lasts numbers
   unfolding keptAfter
   kept told = rw told
+
+-- what is kept, part by part, where it is known as a whole
+abbrev Keeping : Kept → List ℕ → List ℕ → List ℕ → List ℕ → Type 0
+Keeping k s l n b = (s ≡ k .starts) × ((l ≡ k .lasts) × ((n ≡ k .numbers) × (b ≡ k .bounds)))
+
+alike : {k known : Kept} {s l n b : List ℕ} → k ≡ known → Keeping known s l n b → Keeping k s l n b
+alike e told = rw e told
 
 -- the four stores make the beginnings
 begun : (gs : List Grant) (bounds : List ℕ) (first second : ℕ) → bounds ≡ noBounds → first ≡ withRole 1 gs → second ≡ withRole 2 gs
@@ -49,8 +56,8 @@ returns : tie.Need-returns
 returns c =
     let start = c .before .before .before .before in
     let bad = told-false (c .before .count-roles .ensures .0) (c .if1 .taken) in
-    let none = refused (wordsOf (start .args .grants .now)) (start .args .starts .now) (start .args .lasts .now) bad in
-    (sym bad, (sym (ap (λ (k : Kept). k .starts) none), (sym (ap (λ (k : Kept). k .lasts) none), start .pre ∙ sym (ap (λ (k : Kept). k .bounds) none))))
+    let none = refused (wordsOf (start .args .grants .now)) (start .args .starts .now) (start .args .lasts .now) (start .args .numbers .now) bad in
+    (sym bad, alike none (refl, (refl, (refl, start .pre))))
 
 array-read-second : tie.Need-array-read-second
 array-read-second c = search needs
@@ -77,16 +84,15 @@ element-write-bounds-4 c = search needs
 
 place-requires : tie.Need-place-requires
 place-requires c κs =
-    let else = c .before .before .before in
-    (holds-of (fine else), begun _ _ _ _ (c .before .before .before .before .before .before .before .pre) (counted else 1 (omega arith)) (counted else 2 (omega arith)))
+    let else = c .before .before .before .before in
+    (holds-of (fine else), begun _ _ _ _ (c .before .before .before .before .before .before .before .before .pre) (counted else 1 (omega arith)) (counted else 2 (omega arith)))
 
 returns-2 : tie.Need-returns-2
 returns-2 c =
-    let start = c .before .before .before .before .before .before .before .before in
-    let good = fine (c .before .before .before .before) in
-    let all = kept (wordsOf (start .args .grants .now)) (start .args .starts .now) (start .args .lasts .now) good in
-    let e = c .place .ensures in
-    (sym good, (e .0 ∙ sym (ap (λ (k : Kept). k .starts) all), (e .1 .0 ∙ sym (ap (λ (k : Kept). k .lasts) all), e .1 .1 ∙ sym (ap (λ (k : Kept). k .bounds) all))))
+    let start = c .before .before .before .before .before .before .before .before .before in
+    let good = fine (c .before .before .before .before .before) in
+    let all = kept (wordsOf (start .args .grants .now)) (start .args .starts .now) (start .args .lasts .now) (start .args .numbers .now) good in
+    (sym good, alike all (c .place .ensures))
 
 pub keep-spec : {M : Type 1} → statement M
 keep-spec =

@@ -3,7 +3,7 @@
 use mathlib.Core.Path.{_≡_, refl, sym, ap, _∙_}
 use mathlib.Core.Logic.{inl, inr}
 use mathlib.Core.List.{List, _∷_}
-use Prim.Native.Nat.{ℕ, _+_, _-_, _/_, _%_, _^_, _≤_, _<_}
+use Prim.Native.Nat.{ℕ, suc, _+_, _*_, _-_, _/_, _%_, _^_, _≤_, _<_}
 use native.Mathlib.Omega.{arith}
 use borrow.Author.Needs.{needs}
 use borrow.Author.Tests.{le-leb, lt-leb}
@@ -14,67 +14,73 @@ use Rattle.meaning.specs.Grants.{Grant, mostGrants, grantsOf, grantsFine}
 use Rattle.meaning.proofs.Bytes.{length-words}
 use Rattle.keeping.specs.Keeping as kept
 use Rattle.keeping.specs.Keeping.{Kept, placeAll, beginnings, keptOf}
-use Rattle.keeping.proofs.Grants.{grantAt, grant-read, grants-on, grants-end, fine-list}
+use Rattle.numbering.proofs.Grants.{grantAt, grant-read, grants-on, grants-end, fine-list}
 use Rattle.keeping.proofs.Room.{Ready, ready-first, place-kept, place-past, first-fine, first-room, ready-next}
 use Rattle.keeping.proofs.place.Statement.{statement}
 use Rattle.keeping.proofs.place.Tie as tie
 
-record Runs (ws starts₀ lasts₀ : List ℕ) (k : Kept) (i : ℕ) : Type 0 where
+record Runs (ws starts₀ lasts₀ numbers₀ : List ℕ) (k : Kept) (number i : ℕ) : Type 0 where
   ready : Ready (grantsOf (drop i ws)) (k .bounds)
-  placed : placeAll (grantsOf (drop i ws)) k ≡ keptOf (grantsOf ws) starts₀ lasts₀
+  placed : placeAll number (grantsOf (drop i ws)) k ≡ keptOf (grantsOf ws) starts₀ lasts₀ numbers₀
 
-first : (ws starts lasts bounds : List ℕ) → T (grantsFine ws) → bounds ≡ beginnings (grantsOf ws)
-    → Runs ws starts lasts (record { starts = starts; lasts = lasts; bounds = bounds }) 0
+first : (ws starts lasts numbers bounds : List ℕ) → T (grantsFine ws) → bounds ≡ beginnings (grantsOf ws)
+    → Runs ws starts lasts numbers (record { starts = starts; lasts = lasts; numbers = numbers; bounds = bounds }) 0 0
 unfolding keptOf
-first ws starts lasts bounds fine begun = rw begun (record { ready = ready-first ws fine; placed = refl })
+first ws starts lasts numbers bounds fine begun = rw begun (record { ready = ready-first ws fine; placed = refl })
 
-module _ {ws starts₀ lasts₀ : List ℕ} {k : Kept} {i : ℕ} (runs : Runs ws starts₀ lasts₀ k i) where
+module _ {ws starts₀ lasts₀ numbers₀ : List ℕ} {k : Kept} {number i : ℕ} (runs : Runs ws starts₀ lasts₀ numbers₀ k number i) where
   module _ (h : i + 4 ≤ length ws) where
     next-ready : Ready (grantAt ws i ∷ grantsOf (drop (i + 4) ws)) (k .bounds)
     next-ready = rw (grants-on ws i h) at (runs .ready)
 
-    turn : (after : Kept) → after ≡ kept.place (grantAt ws i) k → Runs ws starts₀ lasts₀ after (i + 4)
+    turn : (after : Kept) → after ≡ kept.place number (grantAt ws i) k → Runs ws starts₀ lasts₀ numbers₀ after (number + 1) (i + 4)
     unfolding placeAll
-    turn after e = rw e (record {
-      ready = ready-next (grantAt ws i) k (grantsOf (drop (i + 4) ws)) next-ready;
-      placed = sym (ap (λ (gs : List Grant). placeAll gs k) (grants-on ws i h)) ∙ runs .placed;
-    })
+    turn after e =
+        let next : number + 1 ≡ suc number = omega arith in
+        rw e (record {
+          ready = ready-next number (grantAt ws i) k (grantsOf (drop (i + 4) ws)) next-ready;
+          placed = rw next (sym (ap (λ (gs : List Grant). placeAll number gs k) (grants-on ws i h)) ∙ runs .placed);
+        })
 
     -- a grant that is kept, by the words as they were read
     kept-turn : (role start long reach : ℕ) → record { role = role; start = start; length = long; reach = reach } ≡ grantAt ws i → reach ≤ long
-        → (starts lasts bounds : List ℕ)
+        → (starts lasts numbers bounds : List ℕ)
         → starts ≡ set (k .starts) (getD (k .bounds) (4 + role) 0) start
         → lasts ≡ set (k .lasts) (getD (k .bounds) (4 + role) 0) (start + (long - reach))
+        → numbers ≡ set (k .numbers) (getD (k .bounds) (4 + role) 0) number
         → bounds ≡ set (k .bounds) (4 + role) (getD (k .bounds) (4 + role) 0 + 1)
-        → Runs ws starts₀ lasts₀ (record { starts = starts; lasts = lasts; bounds = bounds }) (i + 4)
-    kept-turn role start long reach is fits starts lasts bounds s l b =
+        → Runs ws starts₀ lasts₀ numbers₀ (record { starts = starts; lasts = lasts; numbers = numbers; bounds = bounds }) (number + 1) (i + 4)
+    kept-turn role start long reach is fits starts lasts numbers bounds s l n b =
         turn _
-        (rw (s, l, b)
-        (sym (place-kept (record { role = role; start = start; length = long; reach = reach }) k (le-leb reach long fits)) ∙ ap (λ (g : Grant). kept.place g k) is))
+        (rw (s, l, n, b)
+        (sym (place-kept number (record { role = role; start = start; length = long; reach = reach }) k (le-leb reach long fits))
+        ∙ ap (λ (g : Grant). kept.place number g k) is))
 
     -- and one that is not
-    past-turn : getD ws (i + 2) 0 < getD ws (i + 3) 0 → (starts lasts bounds : List ℕ) → starts ≡ k .starts → lasts ≡ k .lasts → bounds ≡ k .bounds
-        → Runs ws starts₀ lasts₀ (record { starts = starts; lasts = lasts; bounds = bounds }) (i + 4)
-    past-turn short starts lasts bounds s l b = turn _ (rw (s, l, b) (sym (place-past (grantAt ws i) k (lt-leb (getD ws (i + 3) 0) (getD ws (i + 2) 0) short))))
+    past-turn : getD ws (i + 2) 0 < getD ws (i + 3) 0 → (starts lasts numbers bounds : List ℕ)
+        → starts ≡ k .starts → lasts ≡ k .lasts → numbers ≡ k .numbers → bounds ≡ k .bounds
+        → Runs ws starts₀ lasts₀ numbers₀ (record { starts = starts; lasts = lasts; numbers = numbers; bounds = bounds }) (number + 1) (i + 4)
+    past-turn short starts lasts numbers bounds s l n b =
+        turn _ (rw (s, l, n, b) (sym (place-past number (grantAt ws i) k (lt-leb (getD ws (i + 3) 0) (getD ws (i + 2) 0) short))))
 
-  ended : length ws < i + 4 → k ≡ keptOf (grantsOf ws) starts₀ lasts₀
+  ended : length ws < i + 4 → k ≡ keptOf (grantsOf ws) starts₀ lasts₀ numbers₀
   unfolding placeAll
-  ended over = sym (ap (λ (gs : List Grant). placeAll gs k) (grants-end ws i over)) ∙ runs .placed
+  ended over = sym (ap (λ (gs : List Grant). placeAll number gs k) (grants-end ws i over)) ∙ runs .placed
 
 abbrev Inv-loop : tie.InvT-loop
-Inv-loop grants starts₀ lasts₀ bounds₀ words i₀ starts lasts bounds i =
-    (i ≤ length grants / 4) × (i % 4 ≡ 0) × (length grants / 4 % 4 ≡ 0)
-    × Runs (wordsOf grants) starts₀ lasts₀ (record { starts = starts; lasts = lasts; bounds = bounds }) i
+Inv-loop grants starts₀ lasts₀ numbers₀ bounds₀ words number₀ i₀ starts lasts numbers bounds number i =
+    (i ≤ length grants / 4) × (i ≡ 4 * number) × (length grants / 4 % 4 ≡ 0)
+    × Runs (wordsOf grants) starts₀ lasts₀ numbers₀ (record { starts = starts; lasts = lasts; numbers = numbers; bounds = bounds }) number i
 
 abbrev μ-loop : tie.MeasureT-loop
-μ-loop grants starts₀ lasts₀ bounds₀ words i₀ starts lasts bounds i = length grants / 4 - i
+μ-loop grants starts₀ lasts₀ numbers₀ bounds₀ words number₀ i₀ starts lasts numbers bounds number i = length grants / 4 - i
 
 -- the list, as words, and what is kept now
 abbrev ws-of : (l : tie.At-loop Inv-loop μ-loop) → List ℕ
 ws-of l = wordsOf (l .before .before .args .grants .now)
 
 abbrev now-of : (l : tie.At-loop Inv-loop μ-loop) → Kept
-now-of l = record { starts = l .loop .starts; lasts = l .loop .lasts; bounds = l .loop .bounds }
+now-of l = record { starts = l .loop .starts; lasts = l .loop .lasts; numbers = l .loop .numbers; bounds = l .loop .bounds }
 
 -- there is a whole grant at i, it is fine, and there is room for it
 module _ (c : tie.In-loop Inv-loop μ-loop) where
@@ -85,10 +91,10 @@ module _ (c : tie.In-loop Inv-loop μ-loop) where
   whole = omega (arith, length-words (c .before .before .before .args .grants .now))
 
   fine-here : (1 ≤ g .role) × (g .role ≤ 3) × (g .start + g .length ≤ 2 ^ 32) × (1 ≤ g .reach)
-  fine-here = first-fine g (now-of (c .before)) _ (next-ready (c .before .loop .inv .3) whole)
+  fine-here = first-fine (c .before .loop .number) g (now-of (c .before)) _ (next-ready (c .before .loop .inv .3) whole)
 
   room-here : getD (c .before .loop .bounds) (4 + g .role) 0 < mostGrants
-  room-here = first-room g (now-of (c .before)) _ (next-ready (c .before .loop .inv .3) whole)
+  room-here = first-room (c .before .loop .number) g (now-of (c .before)) _ (next-ready (c .before .loop .inv .3) whole)
 
 -- the same at the role as it was read
 room-read : (c : tie.After-word3 Inv-loop μ-loop) → getD (c .before .before .before .before .before .loop .bounds) (4 + c .word3 .result) 0 < mostGrants
@@ -98,7 +104,7 @@ loop-holds : tie.Need-loop-holds Inv-loop μ-loop
 loop-holds c =
     let start = c .before in
     let told = fine-list (wordsOf (start .args .grants .now)) (start .pre .0) in
-    (omega arith, refl, omega (arith, told .0, length-words (start .args .grants .now)), first _ _ _ _ (start .pre .0) (start .pre .1))
+    (omega arith, refl, omega (arith, told .0, length-words (start .args .grants .now)), first _ _ _ _ _ (start .pre .0) (start .pre .1))
 
 add-word : tie.Need-add-word Inv-loop μ-loop
 add-word c = omega arith
@@ -148,6 +154,14 @@ mul-lasts c = omega (arith, room-read (c .before .before))
 element-write-lasts : tie.Need-element-write-lasts Inv-loop μ-loop
 element-write-lasts c = omega (arith, room-read (c .before .before))
 
+cast-numbers : tie.Need-cast-numbers Inv-loop μ-loop
+cast-numbers c =
+    let start = c .before .before .before .before .before .before .before .before .before in
+    omega (arith, fine-list (wordsOf (start .args .grants .now)) (start .pre .0) .1, length-words (start .args .grants .now), room-read (c .before .before))
+
+element-write-numbers : tie.Need-element-write-numbers Inv-loop μ-loop
+element-write-numbers c = omega (arith, room-read (c .before .before))
+
 add-bounds : tie.Need-add-bounds Inv-loop μ-loop
 add-bounds c = omega (arith, room-read (c .before .before))
 
@@ -156,6 +170,9 @@ mul-bounds c = omega arith
 
 element-write-bounds : tie.Need-element-write-bounds Inv-loop μ-loop
 element-write-bounds c = omega (arith, fine-here (c .before .before .before .before .before .before))
+
+add-number : tie.Need-add-number Inv-loop μ-loop
+add-number c = omega arith
 
 add-i : tie.Need-add-i Inv-loop μ-loop
 add-i c = omega arith
@@ -175,8 +192,8 @@ loop-again c =
       elim (k .came) [
         | inl w ↦
             let is = grant-read (ws-of l) (l .loop .i) _ _ _ _ (w .1 .ensures) (w .3 .ensures) (c .before .before .word .ensures) (c .before .word2 .ensures) in
-            kept-turn runs (whole in-loop) _ _ _ _ is (w .0 .taken) (k .starts) (k .lasts) (k .bounds) (w .4) (w .5) (w .6)
-        | inr w ↦ past-turn runs (whole in-loop) (omega arith) (k .starts) (k .lasts) (k .bounds) (w .1) (w .2) (w .3)
+            kept-turn runs (whole in-loop) _ _ _ _ is (w .0 .taken) (k .starts) (k .lasts) (k .numbers) (k .bounds) (w .4) (w .5) (w .6) (w .7)
+        | inr w ↦ past-turn runs (whole in-loop) (omega arith) (k .starts) (k .lasts) (k .numbers) (k .bounds) (w .1) (w .2) (w .3) (w .4)
       ],
     )
 
@@ -184,7 +201,7 @@ returns : tie.Need-returns Inv-loop μ-loop
 returns c =
     let l = c .before in
     let all = ended (l .loop .inv .3) (omega (arith, length-words (l .before .before .args .grants .now))) in
-    (ap (λ (k : Kept). k .starts) all, (ap (λ (k : Kept). k .lasts) all, ap (λ (k : Kept). k .bounds) all))
+    (ap (λ (k : Kept). k .starts) all, (ap (λ (k : Kept). k .lasts) all, (ap (λ (k : Kept). k .numbers) all, ap (λ (k : Kept). k .bounds) all)))
 
 pub place-spec : {M : Type 1} → statement M
 place-spec =
@@ -209,9 +226,12 @@ place-spec =
     add-lasts
     mul-lasts
     element-write-lasts
+    cast-numbers
+    element-write-numbers
     add-bounds
     mul-bounds
     element-write-bounds
+    add-number
     add-i
     loop-less
     loop-again

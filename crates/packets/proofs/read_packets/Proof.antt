@@ -16,11 +16,11 @@ use Rattle.packets.proofs.read_packets.Statement.{statement}
 use Rattle.packets.proofs.read_packets.Tie as tie
 
 abbrev Inv-loop : tie.InvT-loop
-Inv-loop batch starts lasts bounds state₀ words at₀ state at =
+Inv-loop batch starts lasts numbers bounds state₀ words at₀ state at =
     (g : Terms) → Keeps g starts lasts bounds → ahead g at (wordsOf batch) state ≡ packetsFrom g 0 Setting 0 (wordsOf batch) state₀
 
 abbrev μ-loop : tie.MeasureT-loop
-μ-loop batch starts lasts bounds state₀ words at₀ state at =
+μ-loop batch starts lasts numbers bounds state₀ words at₀ state at =
     words - at
 
 -- a header stands before the end, which is told in whole words of the buffer

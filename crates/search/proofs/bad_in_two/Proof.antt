@@ -26,8 +26,8 @@ cell-0 c g = look 0 tt (sym (add-zero _)) (all-left g _ _ 2) (c .fine .ensures g
 returns : tie.Need-returns
 returns c g = cell-0 (c .before) g .bad (c .if1 .taken)
 
-add-t11 : tie.Need-add-t11
-add-t11 c = omega (arith, low (c .before .before .before))
+add-t12 : tie.Need-add-t12
+add-t12 c = omega (arith, low (c .before .before .before))
 
 fine-requires-2 : tie.Need-fine-requires-2
 fine-requires-2 c κs = let p = c .before .before .before .pre in (p .0, ((_, p .1 .1), omega arith))
@@ -53,7 +53,7 @@ bad-in-two-spec =
     (tie.spec
     fine-requires
     returns
-    add-t11
+    add-t12
     fine-requires-2
     add-result
     returns-2

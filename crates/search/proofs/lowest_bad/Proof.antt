@@ -13,23 +13,23 @@ use Rattle.search.proofs.lowest_bad.Statement.{statement}
 use Rattle.search.proofs.lowest_bad.Tie as tie
 
 abbrev Inv-loop : tie.InvT-loop
-Inv-loop state starts lasts bounds target c₀ c = Loop (λ g. Keeps g starts lasts bounds) (wordsOf state) 2 16 4 c
+Inv-loop state starts lasts numbers bounds target c₀ c = Loop (λ g. Keeps g starts lasts bounds) (wordsOf state) 2 16 4 c
 
 abbrev μ-loop : tie.MeasureT-loop
-μ-loop state starts lasts bounds target c₀ c = 36 - c
+μ-loop state starts lasts numbers bounds target c₀ c = 36 - c
 
 abbrev Inv-loop2 : tie.InvT-loop2
-Inv-loop2 state starts lasts bounds target c₀ c = Loop (λ g. Keeps g starts lasts bounds) (wordsOf state) 3 16 36 c
+Inv-loop2 state starts lasts numbers bounds target c₀ c = Loop (λ g. Keeps g starts lasts bounds) (wordsOf state) 3 16 36 c
 
 abbrev μ-loop2 : tie.MeasureT-loop2
-μ-loop2 state starts lasts bounds target c₀ c = 84 - c
+μ-loop2 state starts lasts numbers bounds target c₀ c = 84 - c
 
 abbrev Inv-loop3 : tie.InvT-loop3
-Inv-loop3 state starts lasts bounds target c₀ overlay role₀ c role =
+Inv-loop3 state starts lasts numbers bounds target c₀ overlay role₀ c role =
     Loop (λ g. Keeps g starts lasts bounds) (wordsOf state) 7 2 87 c × (c + 7 * 2 ≡ 87 + 7 * role)
 
 abbrev μ-loop3 : tie.MeasureT-loop3
-μ-loop3 state starts lasts bounds target c₀ overlay role₀ c role = 4 - role
+μ-loop3 state starts lasts numbers bounds target c₀ overlay role₀ c role = 4 - role
 
 -- the function's entry, from each loop
 abbrev entry-1 : tie.At-loop Inv-loop μ-loop Inv-loop2 μ-loop2 Inv-loop3 μ-loop3 → tie.Start Inv-loop μ-loop Inv-loop2 μ-loop2 Inv-loop3 μ-loop3

@@ -45,11 +45,11 @@ returns-2 : tie.Need-returns-2
 returns-2 c =
     let t = c .before in
     let k = t .before in
-    rw (c .refused2 .ensures) (refused-grants _ _ _ (formed (k .before .before .before .before)) (told-false (k .keep .ensures .0) (t .if2 .taken)), refl)
+    rw (c .refused2 .ensures) (refused-grants _ _ _ (formed (k .before .before .before .before .before)) (told-false (k .keep .ensures .0) (t .if2 .taken)), refl)
 
 -- the grants keep their rules, and are kept
 abbrev else-1 : tie.Else2 → tie.Else1
-else-1 c = c .before .before .before .before .before
+else-1 c = c .before .before .before .before .before .before
 
 abbrev start : tie.Else2 → tie.Start
 start c = else-1 c .before .before .before .before .before
@@ -58,15 +58,15 @@ fine : (c : tie.Else2) → grantsFine (wordsOf (start c .args .grants .now)) ≡
 fine c = told-true (c .before .keep .ensures .0) (c .if2 .left)
 
 kept : (c : tie.Else2) → let k = c .before .keep .last in
-    Keeps (termsOf (wordsOf (start c .args .grants .now))) (k .1 .0) (k .1 .1 .0) (k .1 .1 .1 .0) × Bounded (k .1 .1 .1 .0)
-kept c = let e = c .before .keep .ensures in kept-after _ _ _ refl refl (fine c) (e .1)
+    Keeps (termsOf (wordsOf (start c .args .grants .now))) (k .1 .0) (k .1 .1 .0) (k .1 .1 .1 .1 .0) × Bounded (k .1 .1 .1 .1 .0)
+kept c = let e = c .before .keep .ensures in kept-after _ _ _ _ (refl, (refl, refl)) (fine c) (e .1)
 
 lowest-bad-requires : tie.Need-lowest-bad-requires
-lowest-bad-requires c κs = let e = c .before .before .before in (holds-of (formed (else-1 e)), kept e .1)
+lowest-bad-requires c κs = let e = c .before .before .before .before in (holds-of (formed (else-1 e)), kept e .1)
 
 -- the lowest bad cell
 abbrev else-2 : tie.After-lowest-bad → tie.Else2
-else-2 c = c .before .before .before .before
+else-2 c = c .before .before .before .before .before
 
 low : (c : tie.After-lowest-bad) → let a = start (else-2 c) .args in c .lowest-bad .result ≡ lowest (termsOf (wordsOf (a .grants .now))) (wordsOf (a .state .now)) 0 cells
 low c = c .lowest-bad .ensures _ (kept (else-2 c) .0)

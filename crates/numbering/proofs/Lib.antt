@@ -1,0 +1,3 @@
+pub mod Grants
+pub mod Numbering
+pub mod Answers
