@@ -302,6 +302,27 @@ static void listings(void)
     expect(word_at(state, 86) == 3 && word_at(state, CELLS + 86) == 1, "driver: the state of a listing that may not be written");
 }
 
+/* ---- grants */
+
+/* The grant behind each address of a program that was just started, under its own grants and under another's. */
+static void grants_behind(void)
+{
+    start(&chart, CHART);
+    start(&captions, CAPTIONS);
+    for (uint32_t cell = 0; cell <= CELLS; cell++) {
+        uint32_t role = cell == 1 ? 1 : cell == 89 || cell == 90 || cell == 93 ? 2 : cell == 96 || cell == 97 || cell == 100 ? 3 : 0;
+        uint32_t number = role == 0 ? IRANGELDA_NO_GRANT : role - 1;
+        expect(grant_behind(&chart, cell) == number, "driver: the grant behind cell %u is not %u", cell, number);
+        struct client stranger = chart;
+        memcpy(stranger.grants, captions.grants, sizeof stranger.grants);
+        expect(grant_behind(&stranger, cell) == IRANGELDA_NO_GRANT, "driver: another's grant is behind cell %u", cell);
+    }
+    struct client damaged = chart;
+    damaged.state[STATE_BYTES - 1] = 1;
+    reason = place = 0;
+    expect(grant_behind(&damaged, 1) == IRANGELDA_NO_GRANT && reason == IRANGELDA_BAD_STATE, "driver: a damaged state: %u at %u", reason, place);
+}
+
 int main(void)
 {
     turns();
@@ -309,6 +330,7 @@ int main(void)
     houses();
     leftover();
     listings();
+    grants_behind();
     if (failures != 0) {
         printf("the page for drivers: %lu of %lu checks failed\n", failures, checks);
         return 1;

@@ -13,8 +13,8 @@ pub type Spans = [u32; MOST_GRANTS];
 // The number of each kept grant in the list that it comes from.
 pub type Numbers = [u8; MOST_GRANTS];
 
-// Where the kept grants of each role stand: from `bounds[role]` on, to before `bounds[4 + role]`. What else is kept of a grant, or of the
-// list, has its place here.
+// Where the kept grants of each role stand: from `bounds[role]` on, to before `bounds[4 + role]`. What else is kept of the
+// list as a whole has its place here.
 pub const BOUNDS: usize = 8;
 
 pub type Bounds = [usize; BOUNDS];

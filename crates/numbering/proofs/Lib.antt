@@ -1,3 +1,4 @@
 pub mod Grants
 pub mod Numbering
 pub mod Answers
+pub mod Examples
