@@ -40,6 +40,10 @@ run_program() { # NAME
     [ "$(cat "$work/status")" = 0 ] || fail "$1 ended with status $(cat "$work/status")"
 }
 
+# A number in it is place × 256 + reason.
+refuses() { [ $(($1 % 256)) -ne 0 ]; }
+refusal() { echo "reason=$(($1 % 256)) place=$(($1 / 256))"; }
+
 # The answer, byte for byte.
 pass_on() { cat "$answer" || fail 'the output could not be written'; }
 

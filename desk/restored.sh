@@ -19,7 +19,3 @@ $(words)"
 
 numbers() { od --endian=little -A n -v -t u8 -N 16 "$answer"; }
 words() { echo $(od --endian=little -A n -v -t x4 -j 16 "$answer" | tr abcdef ABCDEF); }
-
-# A number is place × 256 + reason.
-refuses() { [ $(($1 % 256)) -ne 0 ]; }
-refusal() { echo "reason=$(($1 % 256)) place=$(($1 / 256))"; }

@@ -4,7 +4,7 @@
 made=$work/made stand=$work/stand
 mkdir -p "$made/crates/leaf/src" "$made/crates/list_batch/src" "$stand"
 cp -R "$root/irangelda" "$root/desk" "$made"
-printf 'leaf:\nirangelda: leaf\nlist_batch: leaf irangelda io\nrestore_listing: leaf irangelda io\n' >"$made/crates.txt"
+printf 'leaf:\nirangelda: leaf\nlist_batch: leaf irangelda io\nrestore_listing: leaf irangelda io\nname_grants: leaf irangelda io\n' >"$made/crates.txt"
 source=$made/crates/leaf/src/lib.rt
 echo first >"$source"
 echo kit-1 >"$stand/version"
@@ -24,7 +24,7 @@ echo 'rt: leaf proved (1 s)'
 mkdir -p target/bin target/stamp target/staticlib
 case $* in
 staticlib*) echo "$source" >target/staticlib/libirangelda.a ;;
-*list_batch* | *restore_listing*)
+*list_batch* | *restore_listing* | *name_grants*)
     [ "$(cat "target/stamp/$2" 2>/dev/null)" != "$source" ] || exit 0
     printf '#!/bin/sh\ncat >/dev/null\n%s\n' "$(cat "$stand/prints")" | sed "s/SOURCE/$source/" >"target/bin/$2"
     chmod +x "target/bin/$2"
@@ -155,12 +155,20 @@ prints 'a program that fails' 'echo cells=1; exit 7' 'ended with status 7'
 prints 'a program that dies' 'echo cells=1; kill -KILL $$' 'ended with status 137'
 
 writes() { # NAME BYTES
+    no_answer "$1" "$2" restore_listing back
+}
+names() { # NAME BYTES
+    no_answer "$1" "$2" name_grants grants --
+}
+no_answer() { # NAME BYTES PROGRAM USE..
+    name=$1
     echo "printf '$2'" >"$stand/prints"
-    rm -f "$made/target/bin/restore_listing"
-    desk back </dev/null
-    ended "$1" 3
-    printed_nothing "$1"
-    said "$1" 'something that is no answer'
+    rm -f "$made/target/bin/$3"
+    shift 3
+    desk "$@" </dev/null
+    ended "$name" 3
+    printed_nothing "$name"
+    said "$name" 'something that is no answer'
 }
 done_8='\0\010\0\0\0\0\0\0' done_1='\0\001\0\0\0\0\0\0' refused_8='\023\010\0\0\0\0\0\0'
 writes 'no number' ''
@@ -171,6 +179,28 @@ writes 'a refusal of the writer and a byte' "$done_8$refused_8\0"
 writes 'a word fewer than told' "$done_8$done_1"
 writes 'part of a word' "$done_8$done_1\074\004\002"
 writes 'a word more than told' "$done_8$done_1\074\004\002\0\0\0\001\0"
+
+k1='cells=1\nreg=01.00.50 val=00001000\n' done_3='\0\003\0\0' refused_2='\011\002\0\0'
+names 'no number before the grants' ''
+names 'part of a number before the grants' '\0\003\0'
+names 'part of a refusal before the grants' '\011\002\0'
+names 'a refusal under grants and a byte' "$refused_2\0"
+names 'a refusal under grants and a listing' "${refused_2}cells=0\n"
+names 'success under grants alone' "$done_3"
+names 'success under grants and a number alone' "$done_3\0"
+names 'a number fewer than lines' "$done_3$k1"
+names 'a number more than lines' "$done_3\0\100$k1"
+names 'a number without a line' "$done_3\0cells=0\n"
+names 'a number above 64' "$done_3\101$k1"
+names 'a number above 127' "$done_3\377$k1"
+names 'a count that is too high' "$done_3\0\0cells=2\nreg=01.00.50 val=00001000\n"
+names 'a count that is too low' "${done_3}cells=0\nreg=01.00.50 val=00001000\n"
+names 'a count with a leading zero' "$done_3\0cells=01\nreg=01.00.50 val=00001000\n"
+names 'another line' "$done_3\0cells=1\nreason=9 place=2\n"
+names 'a line that is cut' "$done_3\0cells=1\nreg=01.00.50 val=00001000"
+names 'a line end more' "$done_3\0$k1\n"
+names 'a byte behind the listing' "$done_3\0$k1\0"
+names 'a zero in the listing' "$done_3\0cells=1\nreg=01.00.50 \0val=00001000\n"
 
 # ---- an archive is as fresh
 
