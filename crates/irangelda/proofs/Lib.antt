@@ -1,3 +1,4 @@
+pub mod Again
 pub mod AsksNothing
 pub mod Buffers
 pub mod Places

@@ -31,26 +31,12 @@ fn bad_in_target(
     requires inside { ⌜ part .to ≤ mostGrants ⌝ }
     ensures lowest { λ r. ⌜ ((g : Terms) → Granting g 1 (now (starts .entry)) (now (lasts .entry)) part → r ≡ lowest g (wordsOf (now (state .entry))) 0 4) ⌝ }
 {
-    if !cells::fine(
-        state,
-        Cell(0),
-        Row::AlphaConstants,
-        starts,
-        lasts,
-        numbers,
-        part,
-    ) {
+    let c = Cell(0);
+    if !cells::fine(state, c, Row::AlphaConstants, starts, lasts, numbers, part) {
         return 0;
     }
-    if !cells::fine(
-        state,
-        Cell(1),
-        Row::TargetAddress,
-        starts,
-        lasts,
-        numbers,
-        part,
-    ) {
+    let c = Cell(1);
+    if !cells::fine(state, c, Row::TargetAddress, starts, lasts, numbers, part) {
         return 1;
     }
     if !cells::fine(state, Cell(2), Row::Location, starts, lasts, numbers, part) {
@@ -127,15 +113,8 @@ fn bad_in_sample(
         return bad;
     }
     let none = Part { from: 0, to: 0 };
-    if !cells::fine(
-        state,
-        Cell(first + 2),
-        Row::Mapping,
-        starts,
-        lasts,
-        numbers,
-        none,
-    ) {
+    let c = Cell(first + 2);
+    if !cells::fine(state, c, Row::Mapping, starts, lasts, numbers, none) {
         return first + 2;
     }
     first + 3
@@ -153,15 +132,8 @@ fn bad_in_overlay(state: &[u8], starts: &Spans, lasts: &Spans, numbers: &Numbers
     if !cells::fine(state, Cell(85), Row::Overlay, starts, lasts, numbers, none) {
         return 85;
     }
-    if !cells::fine(
-        state,
-        Cell(86),
-        Row::AlphaSelect,
-        starts,
-        lasts,
-        numbers,
-        none,
-    ) {
+    let c = Cell(86);
+    if !cells::fine(state, c, Row::AlphaSelect, starts, lasts, numbers, none) {
         return 86;
     }
     87
@@ -181,53 +153,26 @@ fn bad_in_scaler(
     requires inside { ⌜ part .to ≤ mostGrants ⌝ }
     ensures lowest { λ r. ⌜ ((g : Terms) (role : ℕ) → Scaler own role → Granting g role (now (starts .entry)) (now (lasts .entry)) part → r ≡ lowest g (wordsOf (now (state .entry))) own 7) ⌝ }
 {
-    if !cells::fine(
-        state,
-        Cell(own),
-        Row::Deinterlace,
-        starts,
-        lasts,
-        numbers,
-        part,
-    ) {
+    let c = Cell(own);
+    if !cells::fine(state, c, Row::Deinterlace, starts, lasts, numbers, part) {
         return own;
     }
-    if !cells::fine(
-        state,
-        Cell(own + 1),
-        Row::SubPicture,
-        starts,
-        lasts,
-        numbers,
-        part,
-    ) {
+    let c = Cell(own + 1);
+    if !cells::fine(state, c, Row::SubPicture, starts, lasts, numbers, part) {
         return own + 1;
     }
-    if !cells::fine(
-        state,
-        Cell(own + 2),
-        Row::FirstAddress,
-        starts,
-        lasts,
-        numbers,
-        part,
-    ) {
+    let c = Cell(own + 2);
+    if !cells::fine(state, c, Row::FirstAddress, starts, lasts, numbers, part) {
         return own + 2;
     }
-    if !cells::fine(
-        state,
-        Cell(own + 3),
-        Row::Address,
-        starts,
-        lasts,
-        numbers,
-        part,
-    ) {
+    let c = Cell(own + 3);
+    if !cells::fine(state, c, Row::Address, starts, lasts, numbers, part) {
         return own + 3;
     }
+    let c = Cell(own + 4);
     if !cells::fine(
         state,
-        Cell(own + 4),
+        c,
         Row::DestinationStride,
         starts,
         lasts,
@@ -236,26 +181,12 @@ fn bad_in_scaler(
     ) {
         return own + 4;
     }
-    if !cells::fine(
-        state,
-        Cell(own + 5),
-        Row::SourceStride,
-        starts,
-        lasts,
-        numbers,
-        part,
-    ) {
+    let c = Cell(own + 5);
+    if !cells::fine(state, c, Row::SourceStride, starts, lasts, numbers, part) {
         return own + 5;
     }
-    if !cells::fine(
-        state,
-        Cell(own + 6),
-        Row::Address,
-        starts,
-        lasts,
-        numbers,
-        part,
-    ) {
+    let c = Cell(own + 6);
+    if !cells::fine(state, c, Row::Address, starts, lasts, numbers, part) {
         return own + 6;
     }
     own + 7

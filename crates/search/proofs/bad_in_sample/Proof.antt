@@ -24,8 +24,8 @@ add-if1 c = search needs
 returns : tie.Need-returns
 returns c g = first-two (c .before) g .bad (c .if1 .taken)
 
-add-t10 : tie.Need-add-t10
-add-t10 c = search needs
+add-t11 : tie.Need-add-t11
+add-t11 c = search needs
 
 fine-requires : tie.Need-fine-requires
 fine-requires c κs = let p = c .before .before .before .pre in (p .0, ((_, sample-rows _ (p .1) .2), omega arith))
@@ -52,7 +52,7 @@ bad-in-sample-spec =
     bad-in-two-requires
     add-if1
     returns
-    add-t10
+    add-t11
     fine-requires
     add-result
     returns-2

@@ -53,8 +53,8 @@ cell-0 c g role s given = look 0 tt (sym (add-zero _)) (all-left g _ _ 7) (c .fi
 returns : tie.Need-returns
 returns c g role s given = cell-0 (c .before) g role s given .bad (c .if1 .taken)
 
-add-t11 : tie.Need-add-t11
-add-t11 c = omega arith
+add-t17 : tie.Need-add-t17
+add-t17 c = omega arith
 
 fine-requires-2 : tie.Need-fine-requires-2
 fine-requires-2 c κs = let p = start-0 (c .before) .pre in (p .0, ((_, rows.sub-picture _ _ (the-scaler (p .1 .0))), p .1 .1))
@@ -68,8 +68,8 @@ cell-1 c g role s given = look 1 tt refl (cell-0 (c .before .before) g role s gi
 returns-2 : tie.Need-returns-2
 returns-2 c g role s given = cell-1 (c .before) g role s given .bad (c .if2 .taken)
 
-add-t11-2 : tie.Need-add-t11-2
-add-t11-2 c = omega arith
+add-t17-2 : tie.Need-add-t17-2
+add-t17-2 c = omega arith
 
 fine-requires-3 : tie.Need-fine-requires-3
 fine-requires-3 c κs = let p = start-1 (c .before) .pre in (p .0, ((_, rows.first-address _ _ (the-scaler (p .1 .0))), p .1 .1))
@@ -83,8 +83,8 @@ cell-2 c g role s given = look 2 tt refl (cell-1 (c .before .before) g role s gi
 returns-3 : tie.Need-returns-3
 returns-3 c g role s given = cell-2 (c .before) g role s given .bad (c .if3 .taken)
 
-add-t11-3 : tie.Need-add-t11-3
-add-t11-3 c = omega arith
+add-t17-3 : tie.Need-add-t17-3
+add-t17-3 c = omega arith
 
 fine-requires-4 : tie.Need-fine-requires-4
 fine-requires-4 c κs = let p = start-2 (c .before) .pre in (p .0, ((_, rows.second-address _ _ (the-scaler (p .1 .0))), p .1 .1))
@@ -98,8 +98,8 @@ cell-3 c g role s given = look 3 tt refl (cell-2 (c .before .before) g role s gi
 returns-4 : tie.Need-returns-4
 returns-4 c g role s given = cell-3 (c .before) g role s given .bad (c .if4 .taken)
 
-add-t11-4 : tie.Need-add-t11-4
-add-t11-4 c = omega arith
+add-t17-4 : tie.Need-add-t17-4
+add-t17-4 c = omega arith
 
 fine-requires-5 : tie.Need-fine-requires-5
 fine-requires-5 c κs = let p = start-3 (c .before) .pre in (p .0, ((_, rows.destination-stride _ _ (the-scaler (p .1 .0))), p .1 .1))
@@ -113,8 +113,8 @@ cell-4 c g role s given = look 4 tt refl (cell-3 (c .before .before) g role s gi
 returns-5 : tie.Need-returns-5
 returns-5 c g role s given = cell-4 (c .before) g role s given .bad (c .if5 .taken)
 
-add-t11-5 : tie.Need-add-t11-5
-add-t11-5 c = omega arith
+add-t17-5 : tie.Need-add-t17-5
+add-t17-5 c = omega arith
 
 fine-requires-6 : tie.Need-fine-requires-6
 fine-requires-6 c κs = let p = start-4 (c .before) .pre in (p .0, ((_, rows.source-stride _ _ (the-scaler (p .1 .0))), p .1 .1))
@@ -128,8 +128,8 @@ cell-5 c g role s given = look 5 tt refl (cell-4 (c .before .before) g role s gi
 returns-6 : tie.Need-returns-6
 returns-6 c g role s given = cell-5 (c .before) g role s given .bad (c .if6 .taken)
 
-add-t11-6 : tie.Need-add-t11-6
-add-t11-6 c = let s = start-5 (c .before) .pre .1 .0 in omega (arith, s .1, s .2)
+add-t17-6 : tie.Need-add-t17-6
+add-t17-6 c = let s = start-5 (c .before) .pre .1 .0 in omega (arith, s .1, s .2)
 
 fine-requires-7 : tie.Need-fine-requires-7
 fine-requires-7 c κs = let p = start-5 (c .before) .pre in (p .0, ((_, rows.third-address _ _ (the-scaler (p .1 .0))), p .1 .1))
@@ -155,27 +155,27 @@ bad-in-scaler-spec =
     (tie.spec
     fine-requires
     returns
-    add-t11
+    add-t17
     fine-requires-2
     add-result
     returns-2
-    add-t11-2
+    add-t17-2
     fine-requires-3
     add-result-2
     returns-3
-    add-t11-3
+    add-t17-3
     fine-requires-4
     add-result-3
     returns-4
-    add-t11-4
+    add-t17-4
     fine-requires-5
     add-result-4
     returns-5
-    add-t11-5
+    add-t17-5
     fine-requires-6
     add-result-5
     returns-6
-    add-t11-6
+    add-t17-6
     fine-requires-7
     add-result-6
     returns-7
