@@ -31,7 +31,7 @@ static const struct calls all_calls[] = {
     { "nothing", nothing_of_six, nothing_of_six, nothing_of_four, nothing_of_four, nothing_of_five }
 };
 
-enum { CELLS = IRANGELDA_CELLS, TARGET_CELL = 1, LONG_WORDS = 16384 };
+enum { CELLS = IRANGELDA_CELLS, TARGET_CELL = 1, LONG_WORDS = 16384, GRANT_BYTES = IRANGELDA_GRANT_BYTES };
 
 /* Aligned alike in every build, so that a count does not hang on where the linker puts things. */
 #define LENT _Alignas(64) static
@@ -48,13 +48,15 @@ static void put_word(uint8_t *bytes, size_t i, uint32_t word)
 
 /* ---- grants */
 
+/* All of them are in memory 0. */
 static void add_grant(uint32_t role, uint32_t start, uint32_t length, uint32_t reach)
 {
-    put_word(grants, 4 * grant_count, role);
-    put_word(grants, 4 * grant_count + 1, start);
-    put_word(grants, 4 * grant_count + 2, length);
-    put_word(grants, 4 * grant_count + 3, reach);
-    grant_count++;
+    uint8_t *grant = grants + GRANT_BYTES * grant_count++;
+    put_word(grant, 0, role);
+    put_word(grant, 1, start);
+    put_word(grant, 2, length);
+    put_word(grant, 3, reach);
+    put_word(grant, 4, 0);
 }
 
 static void add_matching_target(void)
@@ -434,15 +436,15 @@ static uint64_t call(const struct calls *calls, enum kind kind)
     memcpy(state, first_state, sizeof state);
     switch (kind) {
     case READ:
-        return calls->read(batch, 4 * batch_words, grants, 16 * grant_count, state, sizeof state);
+        return calls->read(batch, 4 * batch_words, grants, GRANT_BYTES * grant_count, state, sizeof state);
     case WRITE:
-        return calls->write(state, sizeof state, grants, 16 * grant_count, out, IRANGELDA_WRITE_BYTES_ENOUGH);
+        return calls->write(state, sizeof state, grants, GRANT_BYTES * grant_count, out, IRANGELDA_WRITE_BYTES_ENOUGH);
     case LIST:
         return calls->list(state, sizeof state, out, IRANGELDA_LIST_BYTES_ENOUGH);
     case READ_LISTING:
         return calls->read_listing(listing, listing_bytes, state, sizeof state);
     default:
-        return calls->which_grant(state, sizeof state, grants, 16 * grant_count, TARGET_CELL);
+        return calls->which_grant(state, sizeof state, grants, GRANT_BYTES * grant_count, TARGET_CELL);
     }
 }
 

@@ -7,17 +7,17 @@ irangelda: what a batch of register writes does, for the support desk
   ./irangelda list WORD..   the registers a batch leaves, from the empty state
   ./irangelda list <FILE    the same of bytes, the lowest byte of a word first
   ./irangelda grants WORD.. -- WORD..   the same under the grants before the --,
-                            four words each: role, start, length and reach
+                            five words each: role, start, length, reach, memory
   ./irangelda back <FILE    from a listing back to words that list takes
   ./irangelda help          this page
   For example               ./irangelda list 0002043C 00010000 50001000
 
-A WORD is 1 to 8 hex digits. list and back know one grant only, that of case K1:
-role 1, start 00100000h, length and reach 00080000h; grants says which of its
-grants admits an address, as grant=G. A batch or a text that is refused gets one
-line, reason=R place=P: docs/DRIVER.md has the reasons. G and P count from 0, P
-in words of the batch or bytes of the text. Of a listing back says listing=whole
-words=N and the words, if any, in the next line; or listing=whole reason=12
+A WORD is 1 to 8 hex digits. list and back know one grant, that of case K1: role
+1, start 00100000h, length and reach 00080000h, memory 0. grants says which of
+its grants admits an address, as grant=G; a target's in the memory that 01.00.51
+names. A refusal is one line, reason=R place=P: docs/DRIVER.md has the reasons.
+G and P count from 0, P in words of a batch, bytes of a text. Of a listing back
+says listing=whole words=N, then the words, if any; or listing=whole reason=12
 place=C, if no batch makes its state under that grant: C is the cell in the way,
 see docs/REGISTERS.md. Whole tells nothing of masks, value rules or grants.
 

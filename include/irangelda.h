@@ -8,9 +8,11 @@
  * Every buffer is bytes and every length is in bytes. A word is 32 bits, its lowest byte first. No alignment is needed.
  *
  *   batch    words, cut into packets. Changed by no call.
- *   grants   0 to 64 grants of four words each: role (1 target, 2 first scaler, 3 second scaler), start, length, reach. Start +
- *            length is at most 2^32 and reach at least 1. Reach is all that the chip may touch from an address on, under every
- *            register value that the gate permits; docs/DRIVER.md says how large that is. Changed by no call.
+ *   grants   0 to 64 grants of five words each: role (1 target, 2 first scaler, 3 second scaler), start, length, reach, memory.
+ *            Start + length is at most 2^32 and reach at least 1. Reach is all that the chip may touch from an address on, under
+ *            every register value that the gate permits; docs/DRIVER.md says how large that is. Memory says which of the chip's two
+ *            memories these addresses are in: 0 or 1 for the target, as bits 21:20 of 01.00.51 number them, and 0 for a scaler.
+ *            Changed by no call.
  *   state    101 values, then 101 marks: 808 bytes. A mark is 0 or 1, and an unmarked value is 0. All bytes 0 is the empty state.
  *            Changed by irangelda_read and irangelda_read_listing alone, and only if they answer reason 0.
  *   out      the writer's words or the lister's text, from the first byte on. Bytes past the end of what is written stay as they
@@ -58,9 +60,9 @@ extern "C" {
 /* Sizes, in bytes unless they say otherwise. */
 #define IRANGELDA_CELLS 101u                 /* registers; the state has a value and a mark for each */
 #define IRANGELDA_STATE_BYTES 808u           /* 202 words */
-#define IRANGELDA_GRANT_BYTES 16u            /* one grant */
+#define IRANGELDA_GRANT_BYTES 20u            /* one grant */
 #define IRANGELDA_GRANTS_MAX 64u             /* grants in a list, at most */
-#define IRANGELDA_GRANTS_BYTES_MAX 1024u
+#define IRANGELDA_GRANTS_BYTES_MAX 1280u
 #define IRANGELDA_NO_GRANT 64u               /* irangelda_which_grant's place where there is none: grants are numbered 0 to 63 */
 #define IRANGELDA_WRITE_WORDS_ENOUGH 184u    /* room that always suffices for irangelda_write, in words */
 #define IRANGELDA_WRITE_BYTES_ENOUGH 736u    /* the same in bytes */
@@ -77,8 +79,8 @@ extern "C" {
  * in bytes, from 0.
  *
  * Where several reasons would fit, the order is 13, 1, 2; then the reader goes through the words from the front and takes the
- * lowest number at the first bad word, with 10 last; the writer takes 12 before 11. The listing reader gives 13, 1 or 19, in this
- * order, and the query 13, 1 or 2.
+ * lowest number at the first bad word, with 10 and then 14 last; the writer takes 12 before 11. The listing reader gives 13, 1 or
+ * 19, in this order, and the query 13, 1 or 2.
  */
 enum irangelda_reason {
     /* Done. Place: the length of the batch in words (read), words written (write), bytes written (list), the length of the listing
@@ -87,8 +89,8 @@ enum irangelda_reason {
     /* Read, write, list, which grant: the state is not 202 words, or a mark is neither 0 nor 1, or an unmarked value is not 0. Read
        a listing: the state is not 202 words; what they are does not matter. Place: 0. */
     IRANGELDA_BAD_STATE = 1,
-    /* Read, write, which grant: the list is not 0 to 64 whole grants, or a grant has another role, ends past 2^32 or has reach 0.
-       Place: 0. */
+    /* Read, write, which grant: the list is not 0 to 64 whole grants, or a grant has another role, ends past 2^32, has reach 0 or is
+       in another memory than its role may be. Place: 0. */
     IRANGELDA_BAD_GRANTS = 2,
     /* Read: the offset in a header is neither 043Ch nor a video register. Place: the header. */
     IRANGELDA_BAD_OFFSET = 3,
@@ -102,17 +104,21 @@ enum irangelda_reason {
     IRANGELDA_BIT_SET = 7,
     /* Read: the value is not one that the register may hold. Place: the word. */
     IRANGELDA_BAD_VALUE = 8,
-    /* Read: the word holds an address that no grant covers, with its reach. Place: the word. */
+    /* Read: the word holds an address that no grant covers, with its reach, in whichever memory. Place: the word. */
     IRANGELDA_NOT_GRANTED = 9,
     /* Read: the batch ends inside a packet, and no word before its end is bad. Place: the length of the batch in words. */
     IRANGELDA_ENDS_INSIDE = 10,
     /* Write, list: out is too short. Place: 0. */
     IRANGELDA_NO_ROOM = 11,
-    /* Write: a marked cell holds a value that the reader would refuse under these grants, or a 3D value of 2^24 or more.
-       Place: the lowest such cell, 0 to 100. */
+    /* Write: a marked cell holds a value that the reader would refuse under these grants, or a 3D value of 2^24 or more; or the
+       target's address, cell 1, is not granted in the memory that cell 2 names. Place: the lowest such cell, 0 to 100. */
     IRANGELDA_NOT_WRITABLE = 12,
     /* All calls: a buffer is longer than 65,536 bytes, or a word buffer is not a multiple of 4 long. Place: 0. */
     IRANGELDA_BAD_BUFFER = 13,
+    /* Read: every word is fine, but the batch writes 01.00.50 or 01.00.51 and would leave a target address, cell 1, that no grant
+       covers, with its reach, in the memory that cell 2 then names: bits 21:20, of which 2 and 3 name none; 0 if it is unmarked.
+       Place: the length of the batch in words. */
+    IRANGELDA_BAD_PAIR = 14,
     /* Read a listing: the bytes are not the listing of any state, or of one with a 3D value of 2^24 or more. Place: the first byte
        with which no listing goes on; the length of the listing if it is cut short, and so has no such byte. */
     IRANGELDA_NOT_A_LISTING = 19,
@@ -127,7 +133,9 @@ enum irangelda_reason {
 
 /*
  * Reads a batch. Reason 0: every packet is permitted under the grants, and its writes have been applied to the state, one after
- * another. Any other reason: the state is as it was.
+ * another; if it wrote the target's address or its location and the state then has such an address, that address is granted in the
+ * memory that the location then names. That is judged behind the last word: what the chip holds between two words is not looked at
+ * (docs/ASSUMED.md). Any other reason: the state is as it was.
  *
  *   batch, batch_len    looked at. 0 bytes is the empty batch, which is permitted and changes nothing.
  *   grants, grants_len  looked at. 0 bytes is no grants.
@@ -178,10 +186,11 @@ uint64_t irangelda_read_listing(const uint8_t *listing, size_t listing_len,
 
 /*
  * Says which grant admits the address in a cell of a state: the lowest-numbered one of the cell's role that covers the address with its
- * reach. Grants are numbered from 0, as the list has them, whatever their roles are and whether they cover anything. Reason 0: the place
- * is the number of that grant; or it is 64, IRANGELDA_NO_GRANT, if there is no such cell, the cell is unmarked, its register holds no
- * address, or no grant admits it. The cells with an address are 1 (target), 89, 90 and 93 (first scaler), 96, 97 and 100 (second
- * scaler). The address alone is looked at, no other bit of the value: the answer says nothing about whether a batch may write it.
+ * reach; for the target only grants in the memory that cell 2 names are looked at (bits 21:20 of its value; 0 if it is unmarked; 2 and 3
+ * name none). Grants are numbered from 0, as the list has them, whatever their roles and memories are and whether they cover anything.
+ * Reason 0: the place is the number of that grant; or it is 64, IRANGELDA_NO_GRANT, if there is no such cell, the cell is unmarked, its
+ * register holds no address, or no grant admits it. The cells with an address are 1 (target), 89, 90 and 93 (first scaler), 96, 97 and
+ * 100 (second scaler). Nothing else is looked at, no other bit of the value: the answer says nothing about whether a batch may write it.
  *
  *   state, state_len    looked at: 808 bytes.
  *   grants, grants_len  looked at. 0 bytes is no grants.

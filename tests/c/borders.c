@@ -9,10 +9,13 @@
 
 enum { IS_HEADER = -1, IS_SETTING = -2, MOST_PARAMETERS = 112, EVERY_PLACE_TO = 1100 };
 
-static const uint32_t grant_words[12] = { 1, 0x1000, 0x1000, 1, 2, 0x1000, 0x1000, 1, 3, 0x1000, 0x1000, 1 };
+enum { GRANTS = 4 };
+static const uint32_t grant_words[GRANT_WORDS * GRANTS] = {
+    1, 0x1000, 0x1000, 1, 0, 1, 0x1000, 0x1000, 1, 1, 2, 0x1000, 0x1000, 1, 0, 3, 0x1000, 0x1000, 1, 0
+};
 
 /* The batch that is being put together, and the state that it leaves of the empty one. */
-static uint8_t batch[IRANGELDA_BUFFER_BYTES_MAX], grants[48], left[STATE_BYTES];
+static uint8_t batch[IRANGELDA_BUFFER_BYTES_MAX], grants[GRANT_BYTES * GRANTS], left[STATE_BYTES];
 static size_t words;
 
 static void add(uint32_t word)
@@ -203,7 +206,7 @@ static void some_at(const struct party *party, size_t place)
 void borders(void)
 {
     static const size_t places[] = { 64, 113, 114, 115, 116, 128, 256, 512, 1024, 2048, 4096, 8192, 16382 };
-    put_words(grants, grant_words, 12);
+    put_words(grants, grant_words, GRANT_WORDS * GRANTS);
     for (size_t p = 0; p < PARTIES; p++) {
         for (size_t i = 0; i < sizeof places / sizeof *places; i++)
             for (size_t place = places[i] - 1; place <= places[i] + 1; place++) {

@@ -109,9 +109,9 @@ static void start(struct client *client, uint32_t memory)
 {
     uint32_t first = memory + TARGET_REACH, second = first + SCALER_REACH;
     memset(client, 0, sizeof *client);
-    add_grant(client, IRANGELDA_ROLE_TARGET, memory, TARGET_REACH, TARGET_REACH);
-    add_grant(client, IRANGELDA_ROLE_FIRST_SCALER, first, SCALER_REACH, SCALER_REACH);
-    add_grant(client, IRANGELDA_ROLE_SECOND_SCALER, second, SCALER_REACH, SCALER_REACH);
+    add_grant(client, IRANGELDA_ROLE_TARGET, memory, TARGET_REACH, TARGET_REACH, 0);
+    add_grant(client, IRANGELDA_ROLE_FIRST_SCALER, first, SCALER_REACH, SCALER_REACH, 0);
+    add_grant(client, IRANGELDA_ROLE_SECOND_SCALER, second, SCALER_REACH, SCALER_REACH, 0);
     house(client->state, memory, first, second);
 }
 
@@ -242,13 +242,13 @@ static void houses(void)
            "driver: the house's words under another's grants");
     for (size_t i = 0; i < 3; i++) {
         struct client poor = chart;
-        put_word(poor.grants, 4 * i, missing[i].role % 3 + 1);
+        put_word(poor.grants + IRANGELDA_GRANT_BYTES * i, 0, missing[i].role % 3 + 1);
         expect(irangelda_write(poor.state, STATE_BYTES, poor.grants, poor.grants_len, words, sizeof words)
                    == missing[i].cell * 256 + IRANGELDA_NOT_WRITABLE,
                "driver: without a grant for role %u", missing[i].role);
     }
     struct client full_list = chart;
-    while (add_grant(&full_list, 1, 0, 1, 1))
+    while (add_grant(&full_list, 1, 0, 1, 1, 0))
         ;
     expect(full_list.grants_len == IRANGELDA_GRANTS_BYTES_MAX, "driver: a full list of %zu bytes", full_list.grants_len);
 }

@@ -5,8 +5,9 @@
 #include "words.h"
 #include <string.h>
 
-/* Every address of the three roles that a register can hold. */
-static const uint32_t all_memory[12] = { 1, 0, 0xffffffff, 1, 2, 0, 0xffffffff, 1, 3, 0, 0xffffffff, 1 };
+/* Every address of the three roles that a register can hold. A target is in memory 0, since each register is written alone. */
+enum { GRANTS = 3 };
+static const uint32_t all_memory[GRANT_WORDS * GRANTS] = { 1, 0, 0xffffffff, 1, 0, 2, 0, 0xffffffff, 1, 0, 3, 0, 0xffffffff, 1, 0 };
 
 /* The shortest batch that writes a value to a cell, and its length in words. */
 static size_t batch_for(size_t cell, uint32_t value, uint8_t *batch)
@@ -25,9 +26,9 @@ static struct outcome outcome;
 static size_t write_to(const struct party *party, size_t cell, uint32_t value)
 {
     static const uint8_t empty[STATE_BYTES];
-    uint8_t batch[12], grants[48];
+    uint8_t batch[12], grants[GRANT_BYTES * GRANTS];
     size_t words = batch_for(cell, value, batch);
-    put_words(grants, all_memory, 12);
+    put_words(grants, all_memory, GRANT_WORDS * GRANTS);
     struct request request = { READ, { { batch, 4 * words }, { grants, sizeof grants }, { empty, STATE_BYTES } } };
     perform(party, &request, &outcome);
     return words;
@@ -120,7 +121,7 @@ static int value_permitted(size_t cell, uint32_t v)
     case 0:
         return bits(v, 22, 12) <= 1024 && bits(v, 10, 0) <= 1024;
     case 2:
-        return bits(v, 21, 20) == 0;
+        return bits(v, 21, 20) <= 1;
     case 3:
         return format_permitted(bits(v, 23, 16));
     case 36:

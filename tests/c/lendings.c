@@ -10,7 +10,7 @@
 enum { LAST = BUFFERS - 1, ROOM = 4096, FULL_WORDS = IRANGELDA_WRITE_WORDS_ENOUGH, FULL_TEXT = IRANGELDA_LIST_BYTES_ENOUGH };
 
 /* Requests from K1 and from a full state, and what is wrong in the bad ones. */
-static uint8_t k1_batch[12], k1_state[STATE_BYTES], k1_grant[16], short_grant[16];
+static uint8_t k1_batch[12], k1_state[STATE_BYTES], k1_grant[GRANT_BYTES], short_grant[GRANT_BYTES], memory_1_grant[GRANT_BYTES];
 static uint8_t full_batch[4 * FULL_WORDS], bad_batch[4 * FULL_WORDS];
 static uint8_t full_state[STATE_BYTES], bad_cell[STATE_BYTES], bad_state[STATE_BYTES];
 static uint8_t grants[IRANGELDA_GRANTS_BYTES_MAX], bad_grants[IRANGELDA_GRANTS_BYTES_MAX], out[ROOM];
@@ -25,8 +25,10 @@ struct trial {
 };
 
 static const struct trial trials[] = {
-    { "K1", { READ, { { k1_batch, 12 }, { k1_grant, 16 }, { full_state, STATE_BYTES } } }, IRANGELDA_OK, 3 },
-    { "K2", { READ, { { k1_batch, 12 }, { short_grant, 16 }, { empty, STATE_BYTES } } }, IRANGELDA_NOT_GRANTED, 2 },
+    { "K1", { READ, { { k1_batch, 12 }, { k1_grant, GRANT_BYTES }, { empty, STATE_BYTES } } }, IRANGELDA_OK, 3 },
+    { "K2", { READ, { { k1_batch, 12 }, { short_grant, GRANT_BYTES }, { empty, STATE_BYTES } } }, IRANGELDA_NOT_GRANTED, 2 },
+    { "K1 in memory 1", { READ, { { k1_batch, 12 }, { memory_1_grant, GRANT_BYTES }, { full_state, STATE_BYTES } } }, IRANGELDA_OK, 3 },
+    { "a bad pair", { READ, { { k1_batch, 12 }, { k1_grant, GRANT_BYTES }, { full_state, STATE_BYTES } } }, IRANGELDA_BAD_PAIR, 3 },
     { "a full state", { READ, { { full_batch, sizeof full_batch }, { grants, sizeof grants }, { empty, STATE_BYTES } } },
       IRANGELDA_OK, FULL_WORDS },
     { "a bad last word", { READ, { { bad_batch, sizeof bad_batch }, { grants, sizeof grants }, { empty, STATE_BYTES } } },
@@ -37,7 +39,7 @@ static const struct trial trials[] = {
       IRANGELDA_BAD_GRANTS, 0 },
     { "a bad last mark", { READ, { { full_batch, sizeof full_batch }, { grants, sizeof grants }, { bad_state, STATE_BYTES } } },
       IRANGELDA_BAD_STATE, 0 },
-    { "K1", { WRITE, { { k1_state, STATE_BYTES }, { k1_grant, 16 }, { out, 16 } } }, IRANGELDA_OK, 3 },
+    { "K1", { WRITE, { { k1_state, STATE_BYTES }, { k1_grant, GRANT_BYTES }, { out, 16 } } }, IRANGELDA_OK, 3 },
     { "a full state", { WRITE, { { full_state, STATE_BYTES }, { grants, sizeof grants }, { out, ROOM } } }, IRANGELDA_OK, FULL_WORDS },
     { "a word too little", { WRITE, { { full_state, STATE_BYTES }, { grants, sizeof grants }, { out, 4 * FULL_WORDS - 4 } } },
       IRANGELDA_NO_ROOM, 0 },
@@ -62,8 +64,8 @@ static const struct trial trials[] = {
       IRANGELDA_NOT_A_LISTING, FULL_TEXT - 2 },
     { "a state too short", { READ_LISTING, { { full_listing, FULL_TEXT }, { NULL, 0 }, { out, STATE_BYTES - 4 } } },
       IRANGELDA_BAD_STATE, 0 },
-    { "K1", { WHICH_GRANT, { { k1_state, STATE_BYTES }, { k1_grant, 16 }, { NULL, 1 } } }, IRANGELDA_OK, 0 },
-    { "K2", { WHICH_GRANT, { { k1_state, STATE_BYTES }, { short_grant, 16 }, { NULL, 1 } } }, IRANGELDA_OK, IRANGELDA_NO_GRANT },
+    { "K1", { WHICH_GRANT, { { k1_state, STATE_BYTES }, { k1_grant, GRANT_BYTES }, { NULL, 1 } } }, IRANGELDA_OK, 0 },
+    { "K2", { WHICH_GRANT, { { k1_state, STATE_BYTES }, { short_grant, GRANT_BYTES }, { NULL, 1 } } }, IRANGELDA_OK, IRANGELDA_NO_GRANT },
     { "the last grant", { WHICH_GRANT, { { full_state, STATE_BYTES }, { grants, sizeof grants }, { NULL, 1 } } },
       IRANGELDA_OK, IRANGELDA_GRANTS_MAX - 1 },
     { "the last cell", { WHICH_GRANT, { { full_state, STATE_BYTES }, { grants, sizeof grants }, { NULL, CELLS - 1 } } },
@@ -78,13 +80,15 @@ static const struct trial trials[] = {
 
 enum { TRIALS = sizeof trials / sizeof *trials };
 
-/* 64 grants, of which the last three are of all memory for each role. */
+/* 64 grants, of which the last three are of all memory for each role; the target's is memory 1, which the full state names. */
 static void fill_grants(void)
 {
-    static const uint32_t other[4] = { 1, 0x1000, 0x1000, 0x1001 }, all_memory[4] = { 1, 0, 0xffffffff, 1 };
+    static const uint32_t other[GRANT_WORDS] = { 1, 0x1000, 0x1000, 0x1001, 0 }, all_memory[GRANT_WORDS] = { 1, 0, 0xffffffff, 1, 0 };
     for (uint32_t i = 0; i < IRANGELDA_GRANTS_MAX; i++) {
-        put_words(grants + 16 * i, i < IRANGELDA_GRANTS_MAX - 3 ? other : all_memory, 4);
-        put_word(grants + 16 * i, 0, 1 + i % 3);
+        uint8_t *grant = grants + GRANT_BYTES * i;
+        put_words(grant, i < IRANGELDA_GRANTS_MAX - 3 ? other : all_memory, GRANT_WORDS);
+        put_word(grant, 0, 1 + i % 3);
+        put_word(grant, 4, i % 3 == 0);
     }
 }
 
@@ -95,13 +99,15 @@ static void fill(void)
     static const struct request write_full = { WRITE, { { full_state, STATE_BYTES }, { grants, sizeof grants }, { out, ROOM } } };
     static const struct request list_full = { LIST, { { full_state, STATE_BYTES }, { NULL, 0 }, { out, ROOM } } };
     put_words(k1_batch, (const uint32_t[]){ 0x0002043c, 0x00010000, 0x50001000 }, 3);
-    put_words(k1_grant, (const uint32_t[]){ 1, 0x00100000, 0x00080000, 0x00080000 }, 4);
-    put_words(short_grant, (const uint32_t[]){ 1, 0x00100000, 0x00080000, 0x00080001 }, 4);
+    put_words(k1_grant, (const uint32_t[]){ 1, 0x00100000, 0x00080000, 0x00080000, 0 }, GRANT_WORDS);
+    put_words(short_grant, (const uint32_t[]){ 1, 0x00100000, 0x00080000, 0x00080001, 0 }, GRANT_WORDS);
+    put_words(memory_1_grant, (const uint32_t[]){ 1, 0x00100000, 0x00080000, 0x00080000, 1 }, GRANT_WORDS);
     set_cell(k1_state, 1, 0x1000);
     memcpy(k1_listing, "cells=1\nreg=01.00.50 val=00001000\n", sizeof k1_listing);
     for (size_t cell = 0; cell < CELLS; cell++)
         set_cell(full_state, cell, role_of(cell) == NO_ROLE ? value_without_address(cell, 0x2b0a1f35u + 77 * (uint32_t)cell)
                                                             : value_with_address(cell, 0x01234500 + 0x100 * (uint32_t)cell));
+    set_cell(full_state, MEMORY_CELL, 0x900000);
     fill_grants();
     for (size_t i = 0; i < ROOM; i++)
         out[i] = (uint8_t)(7 * i + 1);
@@ -114,7 +120,7 @@ static void fill(void)
     memcpy(bad_state, full_state, STATE_BYTES);
     put_word(bad_state, 2 * CELLS - 1, 2);
     memcpy(bad_grants, grants, sizeof grants);
-    put_word(bad_grants, sizeof grants / 4 - 1, 0);
+    put_word(bad_grants, sizeof grants / 4 - 1, 2);
     perform(&parties[CAREFUL], &list_full, &written);
     memcpy(full_listing, written.after, FULL_TEXT);
     full_listing[FULL_TEXT] = '\n';
@@ -201,15 +207,15 @@ static struct request from_k1(enum kind kind, const uint8_t *state)
 {
     switch (kind) {
     case READ:
-        return (struct request){ READ, { { k1_batch, 12 }, { k1_grant, 16 }, { state, STATE_BYTES } } };
+        return (struct request){ READ, { { k1_batch, 12 }, { k1_grant, GRANT_BYTES }, { state, STATE_BYTES } } };
     case WRITE:
-        return (struct request){ WRITE, { { state, STATE_BYTES }, { k1_grant, 16 }, { out, 12 } } };
+        return (struct request){ WRITE, { { state, STATE_BYTES }, { k1_grant, GRANT_BYTES }, { out, 12 } } };
     case LIST:
         return (struct request){ LIST, { { state, STATE_BYTES }, { NULL, 0 }, { out, 34 } } };
     case READ_LISTING:
         return (struct request){ READ_LISTING, { { k1_listing, 34 }, { NULL, 0 }, { state, STATE_BYTES } } };
     default:
-        return (struct request){ WHICH_GRANT, { { state, STATE_BYTES }, { k1_grant, 16 }, { NULL, 1 } } };
+        return (struct request){ WHICH_GRANT, { { state, STATE_BYTES }, { k1_grant, GRANT_BYTES }, { NULL, 1 } } };
     }
 }
 

@@ -12,11 +12,11 @@ static uint8_t batch[MOST_LENT], grants[MOST_LENT], state[MOST_LENT], out[MOST_L
 
 static void fill(void)
 {
-    static const uint32_t grant[4] = { 1, 0x1000, 0x1000, 1 };
+    static const uint32_t grant[GRANT_WORDS] = { 1, 0x1000, 0x1000, 1, 0 };
     static const char text[] = "cells=1\nreg=2208 val=00000007\n";
     for (size_t i = 0; i < LENT_WORDS; i++) {
         put_word(batch, i, i % 2 == 0 ? 0x00012208 : 0x00000007);
-        put_word(grants, i, grant[i % 4]);
+        put_word(grants, i, grant[i % GRANT_WORDS]);
         put_word(out, i, 0xeeeeeeee);
     }
     set_cell(state, 84, 7);
@@ -40,15 +40,15 @@ static struct request fine(enum kind kind)
 {
     switch (kind) {
     case READ:
-        return (struct request){ READ, { { batch, 8 }, { grants, 16 }, { state, STATE_BYTES } } };
+        return (struct request){ READ, { { batch, 8 }, { grants, GRANT_BYTES }, { state, STATE_BYTES } } };
     case WRITE:
-        return (struct request){ WRITE, { { state, STATE_BYTES }, { grants, 16 }, { out, 8 } } };
+        return (struct request){ WRITE, { { state, STATE_BYTES }, { grants, GRANT_BYTES }, { out, 8 } } };
     case LIST:
         return (struct request){ LIST, { { state, STATE_BYTES }, { NULL, 0 }, { out, 30 } } };
     case READ_LISTING:
         return (struct request){ READ_LISTING, { { listing, 30 }, { NULL, 0 }, { state, STATE_BYTES } } };
     default:
-        return (struct request){ WHICH_GRANT, { { target, STATE_BYTES }, { grants, 16 }, { NULL, TARGET_CELL } } };
+        return (struct request){ WHICH_GRANT, { { target, STATE_BYTES }, { grants, GRANT_BYTES }, { NULL, TARGET_CELL } } };
     }
 }
 
@@ -108,9 +108,11 @@ static void grants_lengths(const struct party *party, enum kind kind)
 {
     const struct length list[] = {
         { 0, OK, kind == WHICH_GRANT ? IRANGELDA_NO_GRANT : fine_place(kind) },
-        { 4, 2, 0 }, { 8, 2, 0 }, { 12, 2, 0 }, { 13, 13, 0 }, { 14, 13, 0 }, { 15, 13, 0 },
-        { 16, OK, fine_place(kind) }, { 17, 13, 0 }, { 20, 2, 0 }, { 1008, OK, fine_place(kind) }, { 1012, 2, 0 },
-        { 1024, OK, fine_place(kind) }, { 1025, 13, 0 }, { 1028, 2, 0 }, { 1040, 2, 0 }, { 2048, 2, 0 },
+        { 4, 2, 0 }, { 8, 2, 0 }, { 12, 2, 0 }, { 16, 2, 0 }, { 17, 13, 0 }, { 18, 13, 0 }, { 19, 13, 0 },
+        { 20, OK, fine_place(kind) }, { 21, 13, 0 }, { 24, 2, 0 }, { 32, 2, 0 }, { 36, 2, 0 }, { 48, 2, 0 }, { 64, 2, 0 },
+        { 80, OK, fine_place(kind) }, { 96, 2, 0 }, { 1008, 2, 0 }, { 1024, 2, 0 }, { 1040, OK, fine_place(kind) },
+        { 1260, OK, fine_place(kind) }, { 1264, 2, 0 }, { 1276, 2, 0 }, { 1280, OK, fine_place(kind) }, { 1281, 13, 0 },
+        { 1284, 2, 0 }, { 1296, 2, 0 }, { 1300, 2, 0 }, { 1600, 2, 0 }, { 2560, 2, 0 },
         { 65520, 2, 0 }, { 65532, 2, 0 }, { 65536, 2, 0 }, NOT_WHOLE_WORDS, TOO_LONG
     };
     LENGTHS(party, kind, 1, list);
@@ -160,7 +162,7 @@ static void listing_lengths(const struct party *party)
 
 /* ---- the order of 13, 1, 2 and the rest */
 
-static uint8_t bad_state[STATE_BYTES], bad_cell[STATE_BYTES], bad_grant[16], bad_batch[8];
+static uint8_t bad_state[STATE_BYTES], bad_cell[STATE_BYTES], bad_grant[GRANT_BYTES], bad_batch[8];
 
 static void spoil(void)
 {
@@ -272,13 +274,15 @@ static void spoilt_states(const struct party *party, enum kind kind)
 
 static void spoilt_grants(const struct party *party, enum kind kind)
 {
-    static const uint32_t bad[4][2] = { { 0, 4 }, { 0xfffff001, 0xffffffff }, { 0xfffff001, 0xffffffff }, { 0, 0 } };
+    static const uint32_t bad[GRANT_WORDS][2] = {
+        { 0, 4 }, { 0xfffff001, 0xffffffff }, { 0xfffff001, 0xffffffff }, { 0, 0 }, { 2, 0xffffffff }
+    };
     uint8_t spoilt[IRANGELDA_GRANTS_BYTES_MAX];
     struct request request = as_long_as(with(fine(kind), 1, spoilt), 1, sizeof spoilt);
     for (size_t word = 0; word < sizeof spoilt / 4; word++)
         for (int which = 0; which < 2; which++) {
             memcpy(spoilt, grants, sizeof spoilt);
-            put_word(spoilt, word, bad[word % 4][which]);
+            put_word(spoilt, word, bad[word % GRANT_WORDS][which]);
             answers(party, "a bad grant", &request, 0, 2);
         }
 }

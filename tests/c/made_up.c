@@ -12,7 +12,7 @@ static unsigned long given[KINDS][REASONS];
 
 /* Which reasons a call can give, as bits. */
 static const unsigned can_give[KINDS] = {
-    1u << 0 | 1u << 1 | 1u << 2 | 1u << 3 | 1u << 4 | 1u << 5 | 1u << 6 | 1u << 7 | 1u << 8 | 1u << 9 | 1u << 10 | 1u << 13,
+    1u << 0 | 1u << 1 | 1u << 2 | 1u << 3 | 1u << 4 | 1u << 5 | 1u << 6 | 1u << 7 | 1u << 8 | 1u << 9 | 1u << 10 | 1u << 13 | 1u << 14,
     1u << 0 | 1u << 1 | 1u << 2 | 1u << 11 | 1u << 12 | 1u << 13,
     1u << 0 | 1u << 1 | 1u << 11 | 1u << 13,
     1u << 0 | 1u << 1 | 1u << 13 | 1u << 19,
@@ -91,16 +91,66 @@ static size_t some_batch_length(void)
     return once_in(8) ? 100 + below(1200) : below(48);
 }
 
+/* ---- what made-up batches do to the pair */
+
+enum sort { PAIR_IN_0, PAIR_IN_1, ADDRESS_ALONE_IN_1, MEMORY_1_ALONE, PAIRS_REFUSED, SORTS };
+
+static const char *const sort_names[SORTS] = {
+    "accepted, with the pair written in memory 0", "accepted, with the pair written in memory 1", "  the address alone",
+    "  the memory alone", "refused for the pair"
+};
+
+static unsigned long sorted[SORTS];
+
+static int writes_cell(int cell)
+{
+    for (size_t i = 0; i < batch.words; i++)
+        if (batch.what[i] == cell)
+            return 1;
+    return 0;
+}
+
+/* Of a batch that was not damaged, so that it is known what its words are. */
+static void sort_pair(void)
+{
+    int address = writes_cell(ADDRESS_CELL), memory = writes_cell(MEMORY_CELL);
+    sorted[PAIRS_REFUSED] += IRANGELDA_REASON(ours.answer) == IRANGELDA_BAD_PAIR;
+    if (IRANGELDA_REASON(ours.answer) != IRANGELDA_OK || !(address || memory) || get_word(ours.after, CELLS + ADDRESS_CELL) == 0)
+        return;
+    if (memory_named(get_word(ours.after, MEMORY_CELL)) == 0) {
+        sorted[PAIR_IN_0]++;
+        return;
+    }
+    sorted[PAIR_IN_1]++;
+    sorted[ADDRESS_ALONE_IN_1] += !memory;
+    sorted[MEMORY_1_ALONE] += !address;
+}
+
+static void look_at_pairs(void)
+{
+    printf("made-up batches and the pair:\n");
+    for (int i = 0; i < SORTS; i++) {
+        printf("%12lu %s\n", sorted[i], sort_names[i]);
+        expect(sorted[i] >= MANY, "made-up read: \"%s\" came only %lu times", sort_names[i], sorted[i]);
+    }
+}
+
+/* The batch is made for the state, in two of three calls so that the pair is right. */
 static void made_up_read(void)
 {
     struct request request = { READ, { { batch_bytes, 0 }, grants_lent(), { state_bytes, 0 } } };
+    int damaged = !once_in(3);
+    request.lent[2] = state_lent(30);
     make_batch(&batch, &grants, some_batch_length());
     if (!once_in(3))
+        mend_pair(&batch, state, &grants);
+    if (damaged)
         damage_batch(&batch);
     put_words(batch_bytes, batch.word, batch.words);
     request.lent[0].length = some_length(4 * batch.words, sizeof batch_bytes);
-    request.lent[2] = state_lent(30);
     both_agree(&request);
+    if (!damaged)
+        sort_pair();
 }
 
 /* The room that careful.c says is needed, where it says so. */
@@ -204,7 +254,7 @@ static void made_up_query(void)
     both_agree(&request);
 }
 
-/* No call can give 14 to 18. */
+/* No call can give 15 to 18. */
 static int is_reason(int reason)
 {
     unsigned calls = 0;
@@ -244,6 +294,7 @@ void made_up(void)
 {
     for (int i = 0; i < READS; i++)
         made_up_read();
+    look_at_pairs();
     for (int i = 0; i < WRITES; i++)
         made_up_write();
     for (int i = 0; i < LISTS; i++)

@@ -34,6 +34,7 @@ int main(void)
     prepare_lending();
     part("readings", readings);
     part("registers", registers);
+    part("pairs", pairs);
     part("writings", writings);
     part("relistings", relistings);
     part("borders", borders);

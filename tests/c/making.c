@@ -13,15 +13,17 @@ static uint32_t one_of(const uint32_t *list, uint32_t count)
 
 static const uint64_t memory_end = (uint64_t)1 << 32;
 
+enum { FORMAT_CELL = 3, NOWHERE = MOST_MADE_WORDS /* behind every word */ };
+
 /* ---- grants */
 
-static void add_granted(struct grants *grants, uint32_t role, uint64_t address)
+static void add_granted(struct addresses *granted, uint64_t address)
 {
-    grants->granted[role][grants->count[role]++] = (uint32_t)address;
+    granted->address[granted->count++] = (uint32_t)address;
 }
 
 /* The lowest and the highest address of a grant that its registers can hold, if there is one. */
-static void note_granted(struct grants *grants, uint32_t role, uint64_t start, uint64_t length, uint64_t reach)
+static void note_granted(struct addresses *granted, uint32_t role, uint64_t start, uint64_t length, uint64_t reach)
 {
     uint64_t step = role == 1 ? 256 : 16, limit = role == 1 ? memory_end : (uint64_t)1 << 29;
     if (reach > length)
@@ -30,13 +32,13 @@ static void note_granted(struct grants *grants, uint32_t role, uint64_t start, u
     uint64_t high = (last < limit ? last : limit - 1) / step * step;
     if (low > high)
         return;
-    add_granted(grants, role, low);
-    add_granted(grants, role, high);
+    add_granted(granted, low);
+    add_granted(granted, high);
 }
 
 static void add_grant(struct grants *grants)
 {
-    uint32_t role = 1 + below(3), *word = grants->word + grants->words;
+    uint32_t role = 1 + below(3), memory = below(MEMORIES), *word = grants->word + grants->words;
     uint32_t any_start = chance(), any_length = chance();
     uint64_t start = ONE_OF(0, 0x100000, any_start >> 4, any_start >> 3 & 0xfffffff0, any_start, 0xffffff00, 0xffffffff);
     uint64_t length = ONE_OF(0, 1, 0x100, 0x1000, 0x80000, any_length >> 8, any_length, 0xffffffff);
@@ -45,19 +47,22 @@ static void add_grant(struct grants *grants)
     uint64_t reach = ONE_OF(1, 16, 0x100, (uint32_t)length, (uint32_t)length, (uint32_t)length + 1, chance() >> 16);
     if (reach == 0)
         reach = 1;
+    if (role != 1)
+        memory = 0;
     word[0] = role;
     word[1] = (uint32_t)start;
     word[2] = (uint32_t)length;
     word[3] = (uint32_t)reach;
-    grants->words += 4;
-    note_granted(grants, role, start, length, reach);
+    word[4] = memory;
+    grants->words += GRANT_WORDS;
+    note_granted(&grants->granted[memory][role], role, start, length, reach);
 }
 
 void make_grants(struct grants *grants)
 {
     uint32_t any = below(65), count = ONE_OF(0, 1, 2, 3, 4, 6, 10, any, any, 63, 64);
     grants->words = 0;
-    memset(grants->count, 0, sizeof grants->count);
+    memset(grants->granted, 0, sizeof grants->granted);
     while (count-- > 0)
         add_grant(grants);
 }
@@ -65,17 +70,17 @@ void make_grants(struct grants *grants)
 /* More than 64, or no whole number of them, or one that breaks a rule. */
 void break_grants(struct grants *grants)
 {
-    static const uint32_t fine[4] = { 2, 0, 0x1000, 1 };
+    static const uint32_t fine[GRANT_WORDS] = { 2, 0, 0x1000, 1, 0 };
     size_t kept = grants->words;
     if (kept == 0 || once_in(4)) {
-        size_t wanted = once_in(2) ? kept + 1 + below(3) : 4 * (65 + below(3));
+        size_t wanted = once_in(2) ? kept + 1 + below(GRANT_WORDS - 1) : GRANT_WORDS * (65 + below(3));
         for (size_t i = kept; i < wanted; i++)
-            grants->word[i] = fine[i % 4];
+            grants->word[i] = fine[i % GRANT_WORDS];
         grants->words = wanted;
         return;
     }
-    uint32_t *word = grants->word + 4 * below((uint32_t)kept / 4);
-    switch (below(4)) {
+    uint32_t *word = grants->word + GRANT_WORDS * below((uint32_t)kept / GRANT_WORDS);
+    switch (below(5)) {
     case 0:
         word[0] = ONE_OF(0, 4, 0x101, 0x80000001, chance());
         break;
@@ -85,24 +90,40 @@ void break_grants(struct grants *grants)
     case 2:
         word[2] = (uint32_t)(memory_end - word[1]) + 1;
         break;
-    default:
+    case 3:
         word[3] = 0;
+        break;
+    default: /* a memory that there is not, or not for a scaler */
+        word[4] = word[0] != 1 && once_in(2) ? 1 : ONE_OF(2, 3, 0x100, 0x80000000, 0xffffffff, chance());
     }
 }
 
 /* ---- values */
 
+static int has_address(const struct grants *grants, uint32_t role, uint32_t memory)
+{
+    return memory < MEMORIES && grants->granted[memory][role].count > 0;
+}
+
 static int has_value(size_t cell, const struct grants *grants)
 {
-    return role_of(cell) == NO_ROLE || grants->count[role_of(cell)] > 0;
+    uint32_t role = role_of(cell);
+    return role == NO_ROLE || has_address(grants, role, 0) || has_address(grants, role, 1);
+}
+
+/* A value with an address that is granted in this memory, where there is one. */
+static uint32_t value_in(uint32_t memory, size_t cell, const struct grants *grants)
+{
+    const struct addresses *granted = &grants->granted[memory][role_of(cell)];
+    return value_with_address(cell, one_of(granted->address, granted->count));
 }
 
 static uint32_t value_for(size_t cell, const struct grants *grants)
 {
-    uint32_t role = role_of(cell);
+    uint32_t role = role_of(cell), memory = below(MEMORIES);
     if (role == NO_ROLE)
         return value_without_address(cell, chance());
-    uint32_t value = value_with_address(cell, grants->granted[role][below(grants->count[role])]);
+    uint32_t value = value_in(has_address(grants, role, memory) ? memory : 1 - memory, cell, grants);
     return cell == 89 || cell == 96 ? value | (chance() & 0xc0000000) : value;
 }
 
@@ -171,6 +192,56 @@ void make_batch(struct batch *batch, const struct grants *grants, size_t most)
     }
 }
 
+static size_t last_write(const struct batch *batch, int cell)
+{
+    size_t behind = batch->words;
+    while (behind > 0 && batch->what[behind - 1] != cell)
+        behind--;
+    return behind > 0 ? behind - 1 : NOWHERE;
+}
+
+static void put_memory(uint32_t *value, uint32_t memory)
+{
+    *value = (*value & ~((uint32_t)3 << MEMORY_AT)) | memory << MEMORY_AT;
+}
+
+/* Only the memory is written: one in which the address is granted that is there. */
+static void mend_memory(uint32_t *word, uint32_t target, const struct grants *grants)
+{
+    for (uint32_t memory = 0; memory < MEMORIES; memory++)
+        for (uint32_t i = 0; i < grants->granted[memory][1].count; i++)
+            if (grants->granted[memory][1].address[i] / 256 == target)
+                put_memory(word, memory);
+}
+
+/* In place of addresses, formats. */
+static void write_no_address(struct batch *batch)
+{
+    for (size_t i = 0; i < batch->words; i++)
+        if (batch->what[i] == ADDRESS_CELL) {
+            batch->word[i] = reg_at(FORMAT_CELL).sub_address << 24 | value_without_address(FORMAT_CELL, chance());
+            batch->what[i] = FORMAT_CELL;
+        }
+}
+
+void mend_pair(struct batch *batch, const uint32_t *state, const struct grants *grants)
+{
+    size_t address_at = last_write(batch, ADDRESS_CELL), memory_at = last_write(batch, MEMORY_CELL);
+    uint32_t memory = memory_named(memory_at != NOWHERE ? batch->word[memory_at] : state[MEMORY_CELL]);
+    if (address_at == NOWHERE && memory_at != NOWHERE && state[CELLS + ADDRESS_CELL] == 1)
+        mend_memory(&batch->word[memory_at], state[ADDRESS_CELL], grants);
+    if (address_at == NOWHERE)
+        return;
+    if (!has_address(grants, 1, memory) && memory_at != NOWHERE) {
+        memory = 1 - memory;
+        put_memory(&batch->word[memory_at], memory);
+    }
+    if (has_address(grants, 1, memory))
+        batch->word[address_at] = reg_at(ADDRESS_CELL).sub_address << 24 | value_in(memory, ADDRESS_CELL, grants);
+    else /* the memory that is there has none */
+        write_no_address(batch);
+}
+
 /* A word that stands where it stood but is no longer right, in a way that its own reasons name. */
 static uint32_t spoilt(uint32_t word, int what)
 {
@@ -213,9 +284,9 @@ void damage_batch(struct batch *batch)
 {
     if (batch->words == 0)
         return;
-    size_t place = some_place(batch->words);
+    size_t place = some_place(batch->words), memory_at = last_write(batch, MEMORY_CELL);
     uint32_t *word = batch->word + place;
-    switch (below(10)) {
+    switch (below(11)) {
     case 0:
         *word ^= (uint32_t)1 << below(32);
         break;
@@ -231,12 +302,28 @@ void damage_batch(struct batch *batch)
     case 4:
         remove_word(batch, place);
         break;
+    case 5: /* the other memory, if the batch names one */
+        if (memory_at != NOWHERE)
+            batch->word[memory_at] ^= (uint32_t)1 << MEMORY_AT;
+        break;
     default:
         *word = spoilt(*word, batch->what[place]);
     }
 }
 
 /* ---- states */
+
+/* An address is there, so one of the memories has some. */
+static void mend_state_pair(uint32_t *state, const struct grants *grants)
+{
+    uint32_t memory = memory_named(state[MEMORY_CELL]);
+    if (!has_address(grants, 1, memory)) {
+        memory = 1 - memory;
+        put_memory(&state[MEMORY_CELL], memory);
+        state[CELLS + MEMORY_CELL] = 1;
+    }
+    state[ADDRESS_CELL] = value_in(memory, ADDRESS_CELL, grants);
+}
 
 void make_state(uint32_t *state, const struct grants *grants, uint32_t every)
 {
@@ -246,13 +333,15 @@ void make_state(uint32_t *state, const struct grants *grants, uint32_t every)
             state[cell] = value_for(cell, grants);
             state[CELLS + cell] = 1;
         }
+    if (state[CELLS + ADDRESS_CELL] == 1)
+        mend_state_pair(state, grants);
 }
 
 void damage_state(uint32_t *state)
 {
     size_t cell = below(CELLS);
     uint32_t any = chance(), bit = below(32);
-    switch (below(6)) {
+    switch (below(7)) {
     case 0:
         state[CELLS + cell] ^= (uint32_t)1 << bit;
         break;
@@ -264,6 +353,10 @@ void damage_state(uint32_t *state)
         break;
     case 3:
         state[CELLS + cell] = any >> bit;
+        break;
+    case 4: /* another memory for the target, or none */
+        state[CELLS + MEMORY_CELL] = 1;
+        put_memory(&state[MEMORY_CELL], any % 4);
         break;
     default: /* a mark, and a value that its register may not hold */
         state[CELLS + cell] = 1;

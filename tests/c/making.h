@@ -4,14 +4,19 @@
 
 #include "words.h"
 
-enum { MOST_GRANT_WORDS = 4 * 70, MOST_MADE_WORDS = LONGEST_WORDS };
+enum { MOST_MADE_GRANTS = 70, MOST_GRANT_WORDS = GRANT_WORDS * MOST_MADE_GRANTS, MOST_MADE_WORDS = LONGEST_WORDS, MEMORIES = 2 };
 
-/* The words of a grant list; for each role some addresses that it grants and that a register can hold. */
+/* Some addresses that are granted to a role in a memory, and that a register can hold. */
+struct addresses {
+    uint32_t address[2 * MOST_MADE_GRANTS];
+    uint32_t count;
+};
+
+/* The words of a grant list, and addresses by memory and role. */
 struct grants {
     uint32_t word[MOST_GRANT_WORDS];
     size_t words;
-    uint32_t granted[4][2 * MOST_GRANT_WORDS];
-    uint32_t count[4];
+    struct addresses granted[MEMORIES][4];
 };
 
 /* The words of a batch, and what each of them is: a cell's value, a header or a setting. */
@@ -26,9 +31,12 @@ struct batch {
 void make_grants(struct grants *grants);
 void break_grants(struct grants *grants);
 
-/* At most `most` words, and not many fewer. */
+/* At most `most` words, and not many fewer. Each word is right by itself; the pair that the batch leaves need not be. */
 void make_batch(struct batch *batch, const struct grants *grants, size_t most);
 void damage_batch(struct batch *batch);
+
+/* Changes words of such a batch so that the pair that it leaves of a made state is right too. */
+void mend_pair(struct batch *batch, const uint32_t *state, const struct grants *grants);
 
 /* One cell in `every` is marked. */
 void make_state(uint32_t *state, const struct grants *grants, uint32_t every);

@@ -15,14 +15,15 @@ struct write {
 struct reading {
     const char *name;
     size_t words, grants;
-    uint32_t batch[MOST_WORDS], grant[3][4];
+    uint32_t batch[MOST_WORDS], grant[3][GRANT_WORDS];
     unsigned reason;
     uint32_t place;
     size_t writes;
     struct write write[MOST_WRITES];
 };
 
-#define GRANT(role, start, length, reach) { role, start, length, reach }
+#define GRANT_IN(memory, role, start, length, reach) { role, start, length, reach, memory }
+#define GRANT(role, start, length, reach) GRANT_IN(0, role, start, length, reach)
 #define NO_GRANT { GRANT(0, 0, 0, 0) }
 #define NOTHING { { NO_CELL, 0 } }
 #define K1_GRANT 1
@@ -42,11 +43,20 @@ struct reading {
 #define ADDRESS_REFUSED(name, word, start, length, reach) \
     { name, 3, 1, { 0x0002043c, 0x00010000, word }, { GRANT(1, start, length, reach) }, 9, 2, 0, NOTHING }
 
+/* Both words of a pair, for the address of K1, which is granted in one memory. */
+#define PAIR_ACCEPTED(name, first, second, memory) \
+    { name, 4, 1, { 0x0003043c, 0x00010000, first, second }, { GRANT_IN(memory, 1, 0x00100000, 0x00080000, 0x00080000) }, 0, 4, 2, \
+      { { 1, 0x001000 }, { 2, (memory) << 20 } } }
+#define PAIR_REFUSED(name, first, second, memory) \
+    { name, 4, 1, { 0x0003043c, 0x00010000, first, second }, { GRANT_IN(memory, 1, 0x00100000, 0x00080000, 0x00080000) }, 14, 4, 0, \
+      NOTHING }
+
 /* A list of one grant before the batch of K4, which needs none. */
 #define GRANT_FINE(name, role, start, length, reach) \
     { name, 3, 1, { 0x0002043c, 0x00010000, 0x3f400400 }, { GRANT(role, start, length, reach) }, 0, 3, 1, { { 0, 0x400400 } } }
-#define GRANT_BAD(name, role, start, length, reach) \
-    { name, 3, 1, { 0x0002043c, 0x00010000, 0x3f400400 }, { GRANT(role, start, length, reach) }, 2, 0, 0, NOTHING }
+#define GRANT_BAD_IN(memory, name, role, start, length, reach) \
+    { name, 3, 1, { 0x0002043c, 0x00010000, 0x3f400400 }, { GRANT_IN(memory, role, start, length, reach) }, 2, 0, 0, NOTHING }
+#define GRANT_BAD(name, role, start, length, reach) GRANT_BAD_IN(0, name, role, start, length, reach)
 
 static const struct reading all_readings[] = {
     ACCEPTED("K1", 0x00010000, 0x50001000, 1, 0x001000),
@@ -144,9 +154,34 @@ static const struct reading all_readings[] = {
     ACCEPTED("depth 4", 0x20020000, 0x31000004, 37, 0x000004),
     REFUSED("depth 5", 0x20020000, 0x31000005, 8),
     REFUSED("7 before 8", 0x20020000, 0x31200003, 7),
-    REFUSED("location 1", 0x00010000, 0x51100000, 8),
-    REFUSED("7 before 8, location", 0x00010000, 0x51100001, 7),
+    REFUSED("memory 2", 0x00010000, 0x51200000, 8),
+    REFUSED("memory 3", 0x00010000, 0x51300000, 8),
+    REFUSED("7 before 8, memory", 0x00010000, 0x51200001, 7),
+    REFUSED("7 in memory 1", 0x00010000, 0x51180000, 7),
+    ACCEPTED("memory 1, and no address", 0x00010000, 0x51100000, 2, 0x100000),
     ACCEPTED("bits 23:22 of 51", 0x00010000, 0x51c00000, 2, 0xc00000),
+    ACCEPTED("bits 23:22 of 51, and memory 1", 0x00010000, 0x51d00000, 2, 0xd00000),
+
+    /* The pair of address and memory: what it is behind the last word counts. */
+    PAIR_ACCEPTED("K1 in memory 0", 0x51000000, 0x50001000, 0),
+    PAIR_ACCEPTED("K1 in memory 1", 0x51100000, 0x50001000, 1),
+    PAIR_ACCEPTED("K1 in memory 1, the address first", 0x50001000, 0x51100000, 1),
+    PAIR_REFUSED("K1 in memory 1, granted in memory 0", 0x51100000, 0x50001000, 0),
+    PAIR_REFUSED("the same, the address first", 0x50001000, 0x51100000, 0),
+    PAIR_REFUSED("K1 in memory 0, granted in memory 1", 0x51000000, 0x50001000, 1),
+    PAIR_REFUSED("the same, and bits 23:22", 0x51c00000, 0x50001000, 1),
+    { "the last memory holds", 5, 1, { 0x0004043c, 0x00010000, 0x51100000, 0x50001000, 0x51000000 }, K1_GRANT_IS, 0, 5, 2,
+      { { 1, 0x001000 }, { 2, 0x000000 } } },
+    { "the last memory does not grant it", 5, 1, { 0x0004043c, 0x00010000, 0x51000000, 0x50001000, 0x51100000 }, K1_GRANT_IS, 14, 5, 0,
+      NOTHING },
+    { "9 before 14", 4, 1, { 0x0003043c, 0x00010000, 0x51100000, 0x50000fff }, K1_GRANT_IS, 9, 3, 0, NOTHING },
+    { "10 before 14", 4, 1, { 0x0004043c, 0x00010000, 0x51100000, 0x50001000 }, K1_GRANT_IS, 10, 4, 0, NOTHING },
+    { "a later packet before 14", 5, 1, { 0x0003043c, 0x00010000, 0x51100000, 0x50001000, 0x00002208 }, K1_GRANT_IS, 4, 4, 0, NOTHING },
+    { "14 behind other packets", 9, 1,
+      { 0x0003043c, 0x00010000, 0x51100000, 0x50001000, 0x00012208, 0x07ff07ff, 0x0002043c, 0x00010000, 0x3f400400 }, K1_GRANT_IS,
+      14, 9, 0, NOTHING },
+    { "each in a packet of its own", 6, 1, { 0x0002043c, 0x00010000, 0x51100000, 0x0002043c, 0x00010000, 0x50001000 }, K1_GRANT_IS,
+      14, 6, 0, NOTHING },
 
     /* Address and reach at the edges of a grant, and sums that wrap 32 bits. */
     ADDRESS_ACCEPTED("the last address that fits", 0x50001001, 0x00100000, 0x00000200, 0x00000100),
@@ -190,7 +225,12 @@ static const struct reading all_readings[] = {
     GRANT_BAD("reach 0", 2, 0, 16, 0),
     GRANT_BAD("role 0", 0, 0, 16, 1),
     GRANT_BAD("role 4", 4, 0, 16, 1),
-    GRANT_BAD("role 257", 257, 0, 16, 1)
+    GRANT_BAD("role 257", 257, 0, 16, 1),
+    GRANT_BAD_IN(2, "a target in memory 2", 1, 0, 16, 1),
+    GRANT_BAD_IN(256, "a target in memory 256", 1, 0, 16, 1),
+    GRANT_BAD_IN(0xffffffff, "a target in memory FFFFFFFF", 1, 0, 16, 1),
+    GRANT_BAD_IN(1, "the first scaler in memory 1", 2, 0, 16, 1),
+    GRANT_BAD_IN(1, "the second scaler in memory 1", 3, 0, 16, 1)
 };
 
 static void leave(uint8_t *state, const struct reading *r)
@@ -202,12 +242,12 @@ static void leave(uint8_t *state, const struct reading *r)
 static void read_from(const struct party *party, const struct reading *r, const uint8_t *before)
 {
     static struct outcome outcome;
-    uint8_t batch[4 * MOST_WORDS], grants[3 * 16], after[STATE_BYTES];
+    uint8_t batch[4 * MOST_WORDS], grants[3 * GRANT_BYTES], after[STATE_BYTES];
     put_words(batch, r->batch, r->words);
-    put_words(grants, r->grant[0], 4 * r->grants);
+    put_words(grants, r->grant[0], GRANT_WORDS * r->grants);
     memcpy(after, before, STATE_BYTES);
     leave(after, r);
-    struct request request = { READ, { { batch, 4 * r->words }, { grants, 16 * r->grants }, { before, STATE_BYTES } } };
+    struct request request = { READ, { { batch, 4 * r->words }, { grants, GRANT_BYTES * r->grants }, { before, STATE_BYTES } } };
     perform(party, &request, &outcome);
     expect(IRANGELDA_REASON(outcome.answer) == (enum irangelda_reason)r->reason && IRANGELDA_PLACE(outcome.answer) == r->place,
            "%s, %s: reason %u place %u", party->name, r->name, (unsigned)IRANGELDA_REASON(outcome.answer),
@@ -215,13 +255,13 @@ static void read_from(const struct party *party, const struct reading *r, const 
     expect(memcmp(outcome.after, after, STATE_BYTES) == 0, "%s, %s: the state after", party->name, r->name);
 }
 
-/* From the empty state, and from one whose other cells must stay. */
+/* From the empty state, and from one whose other cells must stay; 01.00.51 has memory 0 there too. */
 static void read_with(const struct party *party, const struct reading *r)
 {
     uint8_t state[STATE_BYTES] = { 0 };
     read_from(party, r, state);
     for (size_t cell = 0; cell < CELLS; cell += 2)
-        set_cell(state, cell, 0xfedc0000 + (uint32_t)cell);
+        set_cell(state, cell, 0xfecd0000 + (uint32_t)cell);
     read_from(party, r, state);
 }
 
@@ -229,12 +269,12 @@ static void read_with(const struct party *party, const struct reading *r)
 static void read_plain_bytes(const struct party *party)
 {
     static const uint8_t batch[12] = { 0x3c, 0x04, 0x02, 0x00, 0x00, 0x00, 0x01, 0x00, 0x00, 0x10, 0x00, 0x50 };
-    static const uint8_t grant[16] = { 1, 0, 0, 0, 0, 0, 0x10, 0, 0, 0, 0x08, 0, 0, 0, 0x08, 0 };
+    static const uint8_t grant[20] = { 1, 0, 0, 0, 0, 0, 0x10, 0, 0, 0, 0x08, 0, 0, 0, 0x08, 0, 0, 0, 0, 0 };
     static struct outcome outcome;
     uint8_t before[STATE_BYTES] = { 0 }, after[STATE_BYTES] = { 0 };
     after[4 * 1 + 1] = 0x10;
     after[4 * (101 + 1)] = 1;
-    struct request request = { READ, { { batch, 12 }, { grant, 16 }, { before, STATE_BYTES } } };
+    struct request request = { READ, { { batch, 12 }, { grant, 20 }, { before, STATE_BYTES } } };
     perform(party, &request, &outcome);
     expect(outcome.answer == 3 * 256, "%s, K1 in bytes: %llu", party->name, (unsigned long long)outcome.answer);
     expect(memcmp(outcome.after, after, STATE_BYTES) == 0, "%s, K1 in bytes: the state after", party->name);

@@ -132,7 +132,7 @@ uint32_t value_without_address(size_t cell, uint32_t choice)
         first = PICK(&choice, 0, 1, 512, 1023, 1024);
         return first << 12 | PICK(&choice, 0, 1, 512, 1023, 1024);
     case 2:
-        return (choice % 4) << 22;
+        return (choice % 4) << 22 | (choice / 4 % 2) << 20;
     case 3:
         first = PICK(&choice, 0x0000, 0x1000, 0x8000, 0x9000);
         return format_byte(choice) << 16 | first;

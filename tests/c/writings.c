@@ -6,18 +6,20 @@
 #include <stdio.h>
 #include <string.h>
 
-enum { ROOM = 4096, GRANTS = 12 };
+enum { ROOM = 4096, GRANTS = 4 };
 
-/* Every address of the three roles. */
-static const uint32_t all_memory[GRANTS] = { 1, 0, 0xffffffff, 1, 2, 0, 0xffffffff, 1, 3, 0, 0xffffffff, 1 };
+/* Every address of the three roles, and the target's in either memory. */
+static const uint32_t all_memory[GRANT_WORDS * GRANTS] = {
+    1, 0, 0xffffffff, 1, 0, 2, 0, 0xffffffff, 1, 0, 3, 0, 0xffffffff, 1, 0, 1, 0, 0xffffffff, 1, 1
+};
 
 static struct outcome outcome;
 
 static uint64_t write_state(const struct party *party, const uint8_t *state, size_t room)
 {
     static uint8_t out[ROOM];
-    uint8_t grants[4 * GRANTS];
-    put_words(grants, all_memory, GRANTS);
+    uint8_t grants[GRANT_BYTES * GRANTS];
+    put_words(grants, all_memory, GRANT_WORDS * GRANTS);
     memset(out, 0xee, room);
     struct request request = { WRITE, { { state, STATE_BYTES }, { grants, sizeof grants }, { out, room } } };
     perform(party, &request, &outcome);
@@ -64,10 +66,10 @@ static void lists_exactly(const struct party *party, const char *name, const uin
 static void leads_back(const struct party *party, const char *name, const uint8_t *state)
 {
     static const uint8_t empty[STATE_BYTES];
-    uint8_t batch[ROOM], grants[4 * GRANTS];
+    uint8_t batch[ROOM], grants[GRANT_BYTES * GRANTS];
     uint64_t words = write_state(party, state, IRANGELDA_WRITE_BYTES_ENOUGH) / 256;
     memcpy(batch, outcome.after, 4 * words);
-    put_words(grants, all_memory, GRANTS);
+    put_words(grants, all_memory, GRANT_WORDS * GRANTS);
     struct request request = { READ, { { batch, 4 * words }, { grants, sizeof grants }, { empty, STATE_BYTES } } };
     perform(party, &request, &outcome);
     expect(outcome.answer == words * 256, "%s reads %s back: answer %llx", party->name, name, (unsigned long long)outcome.answer);
@@ -231,8 +233,7 @@ static void one_in_one_out(const struct party *party)
         made_state(party, "a cell alone", one);
         for (size_t c = 0; c < CELLS; c++)
             set_cell(rest, c, value_for(c));
-        put_word(rest, cell, 0);
-        put_word(rest, CELLS + cell, 0);
+        clear_cell(rest, cell);
         made_state(party, "all cells but one", rest);
     }
 }
@@ -280,7 +281,8 @@ static void bad_cells(const struct party *party)
                 bad_cell(party, cell, value_for(cell) | (uint32_t)1 << bit);
     }
     bad_cell(party, 0, 0x401000);
-    bad_cell(party, 2, 0x100000);
+    bad_cell(party, 2, 0x200000);
+    bad_cell(party, 2, 0x300000);
     bad_cell(party, 3, 0x940000);
     bad_cell(party, 36, 0x00000c);
     bad_cell(party, 40, 0x004080);
@@ -289,16 +291,16 @@ static void bad_cells(const struct party *party)
     bad_cell(party, 89, 0x00000001);
 }
 
-/* The address of each such cell, without a grant. */
+/* The address of each such cell, without a grant; the target's is granted in the other memory. */
 static void ungranted_cells(const struct party *party)
 {
     for (size_t cell = 0; cell < CELLS; cell++) {
-        uint8_t state[STATE_BYTES] = { 0 }, grants[4 * GRANTS], out[8] = { 0 };
+        uint8_t state[STATE_BYTES] = { 0 }, grants[GRANT_BYTES * GRANTS], out[8] = { 0 };
         uint32_t role = role_of(cell);
         if (role == NO_ROLE)
             continue;
-        put_words(grants, all_memory, GRANTS);
-        put_word(grants, 4 * (role - 1) + 2, 0x1000);
+        put_words(grants, all_memory, GRANT_WORDS * GRANTS);
+        put_word(grants, GRANT_WORDS * (role - 1) + 2, 0x1000);
         set_cell(state, cell, value_with_address(cell, 0x1000));
         struct request request = { WRITE, { { state, STATE_BYTES }, { grants, sizeof grants }, { out, sizeof out } } };
         perform(party, &request, &outcome);

@@ -68,6 +68,10 @@ refused K24 8 2 0002043C 23020000 31000800
 refused K25 8 2 0002043C 23020000 31000020
 accepted K26 'cells=1
 reg=02.23.31 val=00000820' 0002043C 23020000 31000820
+refused K31 14 4 0003043C 00010000 50001000 51100000
+refused K33 8 2 0002043C 00010000 51200000
+accepted K34 'cells=1
+reg=01.00.51 val=00100000' 0002043C 00010000 51100000
 
 # ---- headers alone
 
@@ -87,6 +91,14 @@ refused 'scaler address' 9 1 000123EC 00000010
 refused 'scaler location' 8 1 000123EC 00000001
 refused 'scaler mask' 7 1 000123EC 00000004
 refused 'type 03' 5 1 0002043C 00030000 50001000
+
+# ---- K1's grant is in memory 0: the target's address is judged with its location, behind the last word
+
+refused 'the location first' 14 4 0003043C 00010000 51100000 50001000
+refused 'the location in another packet' 14 6 0002043C 00010000 50001000 0002043C 00010000 51100000
+accepted 'there and back' 'cells=2
+reg=01.00.50 val=00001000
+reg=01.00.51 val=00800000' 0003043C 00010000 50001000 51100000 0002043C 00010000 51800000
 
 # ---- words in lower case and without their leading zeros
 

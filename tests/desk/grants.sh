@@ -19,8 +19,10 @@ denied() { # NAME REASON PLACE WORDS.. -- WORDS..
 }
 bytes 0002043C 00010000 3F400400 >"$work/in"
 
-# The grant and the batch of K1, and the line of its register.
-k1_grant='1 00100000 00080000 00080000'
+# The grant and the batch of K1, and the line of its register; the grant without its memory, and in memory 1.
+four_words='1 00100000 00080000 00080000'
+k1_grant="$four_words 0"
+k1_grant_1="$four_words 1"
 k1_batch='0002043C 00010000 50001000'
 k1_line='reg=01.00.50 val=00001000'
 
@@ -39,7 +41,7 @@ no_target() { # NAME GRANT..
 # ---- the cases that have grants of their own, and registers without an address
 
 target K1 0 $k1_grant
-no_target K2 1 00100000 00080000 00080001
+no_target K2 1 00100000 00080000 00080001 0
 no_target K3
 told K4 'cells=1
 reg=01.00.3f val=00400400' -- 0002043C 00010000 3F400400
@@ -49,32 +51,32 @@ denied K5 8 2 -- 0002043C 00010000 3F000401
 told 'K1 and a register without an address' "cells=2
 $k1_line grant=0
 reg=02.00.50 val=00000001" $k1_grant -- $k1_batch 0002043C 00020000 50000001
-target 'short words' 0 1 100000 80000 80000
+target 'short words' 0 1 100000 80000 80000 0
 
 # ---- which grant: the lowest-numbered one of the role that has room for the reach
 
-target 'a grant of the first scaler before' 1 2 00100000 00080000 00080000 $k1_grant
-target 'grants of both scalers before' 2 2 00100000 00080000 00080000 3 00100000 00080000 00080000 $k1_grant
-target 'more reach than length before' 1 1 00100000 00080000 00080001 $k1_grant
-target 'no length before' 1 1 00100000 00000000 00000001 $k1_grant
-target 'a grant that ends before' 1 1 00000000 00100000 00000001 $k1_grant
-target 'a grant that starts behind' 1 1 00100001 00080000 00000001 $k1_grant
-target 'a larger grant before' 0 1 00000000 10000000 00000001 $k1_grant
-target 'a larger grant behind' 0 $k1_grant 1 00000000 10000000 00000001
-target 'grants that overlap in the address' 0 1 00000000 00100001 00000001 1 00100000 00080000 00080000
-target 'a grant up to 2^32' 1 3 00000000 FFFFFFFF 00000001 1 00100000 FFF00000 FFF00000
+target 'a grant of the first scaler before' 1 2 00100000 00080000 00080000 0 $k1_grant
+target 'grants of both scalers before' 2 2 00100000 00080000 00080000 0 3 00100000 00080000 00080000 0 $k1_grant
+target 'more reach than length before' 1 1 00100000 00080000 00080001 0 $k1_grant
+target 'no length before' 1 1 00100000 00000000 00000001 0 $k1_grant
+target 'a grant that ends before' 1 1 00000000 00100000 00000001 0 $k1_grant
+target 'a grant that starts behind' 1 1 00100001 00080000 00000001 0 $k1_grant
+target 'a larger grant before' 0 1 00000000 10000000 00000001 0 $k1_grant
+target 'a larger grant behind' 0 $k1_grant 1 00000000 10000000 00000001 0
+target 'grants that overlap in the address' 0 1 00000000 00100001 00000001 0 1 00100000 00080000 00080000 0
+target 'a grant up to 2^32' 1 3 00000000 FFFFFFFF 00000001 0 1 00100000 FFF00000 FFF00000 0
 target 'equal grants' 0 $k1_grant $k1_grant $k1_grant
-no_target 'the first scaler alone' 2 00100000 00080000 00080000
-no_target 'no length' 1 00100000 00000000 00000001
+no_target 'the first scaler alone' 2 00100000 00080000 00080000 0
+no_target 'no length' 1 00100000 00000000 00000001 0
 
 # Both ends of the grant, by the address.
 told 'the first address' 'cells=1
-reg=01.00.50 val=00001000 grant=1' 1 00100100 00000200 00000100 1 00100000 00000200 00000100 -- 0002043C 00010000 50001000
+reg=01.00.50 val=00001000 grant=1' 1 00100100 00000200 00000100 0 1 00100000 00000200 00000100 0 -- 0002043C 00010000 50001000
 told 'the second address' 'cells=1
-reg=01.00.50 val=00001001 grant=0' 1 00100100 00000200 00000100 1 00100000 00000200 00000100 -- 0002043C 00010000 50001001
+reg=01.00.50 val=00001001 grant=0' 1 00100100 00000200 00000100 0 1 00100000 00000200 00000100 0 -- 0002043C 00010000 50001001
 told 'the last address' 'cells=1
-reg=01.00.50 val=00001002 grant=0' 1 00100100 00000200 00000100 1 00100000 00000200 00000100 -- 0002043C 00010000 50001002
-denied 'behind the last address' 9 2 1 00100100 00000200 00000100 1 00100000 00000200 00000100 -- 0002043C 00010000 50001003
+reg=01.00.50 val=00001002 grant=0' 1 00100100 00000200 00000100 0 1 00100000 00000200 00000100 0 -- 0002043C 00010000 50001002
+denied 'behind the last address' 9 2 1 00100100 00000200 00000100 0 1 00100000 00000200 00000100 0 -- 0002043C 00010000 50001003
 
 # ---- the target and both scalers; the address alone counts, not the bits beside it
 
@@ -86,22 +88,85 @@ reg=23fc val=1ffffff0 grant=4
 reg=33ec val=00000010 grant=0
 reg=33f0 val=00000020 grant=3
 reg=33fc val=00000010 grant=0" \
-    3 00000000 00000020 00000010 \
-    2 00000000 00001000 00000010 \
+    3 00000000 00000020 00000010 0 \
+    2 00000000 00001000 00000010 0 \
     $k1_grant \
-    3 00000000 00000030 00000010 \
-    2 00000000 20000000 00000010 \
+    3 00000000 00000030 00000010 0 \
+    2 00000000 20000000 00000010 0 \
     -- $k1_batch 000123EC C0000010 000123F0 00001000 000123FC 1FFFFFF0 000133EC 00000010 000133F0 00000020 000133FC 00000010
-denied 'the other scaler' 9 1 3 00000000 20000000 00000010 -- 000123EC 00000010
+denied 'the other scaler' 9 1 3 00000000 20000000 00000010 0 -- 000123EC 00000010
 told 'a register that is written again' "cells=1
-reg=23ec val=00000020 grant=1" 2 00000010 00000010 00000010 2 00000020 00000010 00000010 -- 000123EC 00000010 000123EC 00000020
+reg=23ec val=00000020 grant=1" 2 00000010 00000010 00000010 0 2 00000020 00000010 00000010 0 -- 000123EC 00000010 000123EC 00000020
+
+# ---- two memories: the cases of the pair that begin at the empty state
+
+pair_batch='0003043C 00010000 50001000 51100000'
+pair() { # NAME NUMBER GRANT..: the target of K1 in memory 1, under these grants
+    name=$1 number=$2
+    shift 2
+    told "$name" "cells=2
+$k1_line grant=$number
+reg=01.00.51 val=00100000" "$@" -- $pair_batch
+}
+no_pair() { # NAME GRANT..
+    name=$1
+    shift
+    denied "$name" 14 4 "$@" -- $pair_batch
+}
+pair K30 0 1 00100000 00080000 1 1
+no_pair K31 1 00100000 00080000 1 0
+denied K32 14 3 1 00100000 00080000 1 1 -- $k1_batch
+denied K33 8 2 -- 0002043C 00010000 51200000
+told K34 'cells=1
+reg=01.00.51 val=00100000' -- 0002043C 00010000 51100000
+denied K41 10 3 1 00100000 00080000 1 1 -- 0003043C 00010000 50001000
+no_pair 'no room in memory 1' $k1_grant 1 00100000 00080000 00080001 1
+denied 'granted in neither memory' 9 2 1 00100001 00080000 1 0 1 00000000 00100000 1 1 -- $pair_batch
+denied 'a bad word behind the pair' 3 4 $k1_grant -- $pair_batch 0
+denied 'location 3' 8 3 $k1_grant_1 -- 0003043C 00010000 50001000 51300000
+denied 'a location with a bit that must be clear' 7 3 $k1_grant_1 -- 0003043C 00010000 50001000 51100001
+
+# Judged once, behind the last word: the order of the words does not matter, and the last write holds.
+told 'the location first' "cells=2
+$k1_line grant=0
+reg=01.00.51 val=00100000" $k1_grant_1 -- 0003043C 00010000 51100000 50001000
+told 'the location in another packet, and tiles of 16 lines' "cells=3
+$k1_line grant=0
+reg=01.00.51 val=00d00000
+reg=2208 val=00010002" $k1_grant_1 -- $k1_batch 00012208 00010002 0002043C 00010000 51D00000
+denied 'the location alone in another packet' 14 6 $k1_grant -- $k1_batch 0002043C 00010000 51100000
+denied 'no location but in the other memory' 14 5 $k1_grant_1 -- $k1_batch 00012208 00010002
+told 'there and back' "cells=2
+$k1_line grant=0
+reg=01.00.51 val=00000000" $k1_grant -- $pair_batch 0002043C 00010000 51000000
+denied 'there, back and there' 14 7 $k1_grant -- $pair_batch 0002043C 00010000 51100000
+told 'an address of either memory' "cells=2
+reg=01.00.50 val=00002000 grant=0
+reg=01.00.51 val=00100000" 1 00200000 00000100 00000100 1 $k1_grant -- 0004043C 00010000 50001000 51100000 50002000
+denied 'the address of memory 0 last' 14 5 1 00200000 00000100 00000100 1 $k1_grant -- 0004043C 00010000 50002000 51100000 50001000
+
+# Which grant: of the target only those in the memory that 01.00.51 names, and 0 where it is not written.
+target 'a grant in memory 1 before' 1 $k1_grant_1 $k1_grant
+target 'a grant in memory 1 behind' 0 $k1_grant $k1_grant_1
+pair 'a grant in memory 0 before' 1 $k1_grant $k1_grant_1
+pair 'a grant in memory 0 behind' 0 $k1_grant_1 $k1_grant
+pair 'the lowest of memory 1' 4 $k1_grant 3 0 10 10 0 1 00100000 00080000 00080001 1 $k1_grant 1 00000000 10000000 1 1 $k1_grant_1 $k1_grant_1
+told 'location 0' "cells=2
+$k1_line grant=1
+reg=01.00.51 val=00800000" $k1_grant_1 $k1_grant -- 0003043C 00010000 50001000 51800000
+told 'a scaler beside a target in memory 1' "cells=3
+$k1_line grant=1
+reg=01.00.51 val=00100000
+reg=23ec val=00000010 grant=0" 2 0 20 10 0 $k1_grant_1 -- $pair_batch 000123EC 00000010
+denied 'a scaler, and grants of the target in both memories' 9 1 $k1_grant $k1_grant_1 -- 000123EC 00000010
 
 # ---- 64 grants, and numbers that are line ends, spaces, digits and signs where they are bytes
 
 fill() { # COUNT: so many grants that grant nothing
-    for unused in $(seq "$1"); do echo 1 00100000 00000000 00000001; done
+    for unused in $(seq "$1"); do echo 1 00100000 00000000 00000001 0; done
 }
 target 'the last of 64 grants' 63 $(fill 63) $k1_grant
+pair 'the last of 64 grants, in memory 1' 63 $(fill 62) $k1_grant $k1_grant_1
 told '64 grants, and no number' 'cells=1
 reg=01.00.3f val=00400400' $(fill 64) -- 0002043C 00010000 3F400400
 no_target '64 grants of nothing' $(fill 64)
@@ -114,13 +179,13 @@ reg=23fc val=00000030 grant=32
 reg=33ec val=00000010 grant=48
 reg=33f0 val=00000020 grant=61
 reg=33fc val=00000030 grant=63" \
-    2 00000010 00000010 00000010 $(fill 9) \
+    2 00000010 00000010 00000010 0 $(fill 9) \
     $k1_grant $(fill 2) \
-    2 00000020 00000010 00000010 $(fill 18) \
-    2 00000030 00000010 00000010 $(fill 15) \
-    3 00000010 00000010 00000010 $(fill 12) \
-    3 00000020 00000010 00000010 $(fill 1) \
-    3 00000030 00000010 00000010 \
+    2 00000020 00000010 00000010 0 $(fill 18) \
+    2 00000030 00000010 00000010 0 $(fill 15) \
+    3 00000010 00000010 00000010 0 $(fill 12) \
+    3 00000020 00000010 00000010 0 $(fill 1) \
+    3 00000030 00000010 00000010 0 \
     -- $k1_batch 000123EC 00000010 000123F0 00000020 000123FC 00000030 000133EC 00000010 000133F0 00000020 000133FC 00000030
 
 # ---- every cell, as in the house's state
@@ -155,7 +220,7 @@ awk '
         scaler("3", 3)
         printf "\ncells=101\n%s", lines
     }' >"$work/every"
-told 'every cell' "$(sed 1d "$work/every")" $k1_grant 2 0 10 10 3 0 10 10 -- $(sed -n 1p "$work/every")
+told 'every cell' "$(sed 1d "$work/every")" $k1_grant 2 0 10 10 0 3 0 10 10 0 -- $(sed -n 1p "$work/every")
 
 # ---- no grants, no batch, neither
 
@@ -175,12 +240,19 @@ bad_list() { # NAME GRANT..
     denied "$name, and a bad batch" 2 0 "$@" -- 0
     denied "$name, and no batch" 2 0 "$@" --
 }
-bad_list 'role 0' $k1_grant 0 00100000 00080000 00080000
-bad_list 'role 4' $k1_grant 4 00100000 00080000 00080000
-bad_list 'no reach' $k1_grant 1 00100000 00080000 0
-bad_list 'above 2^32' $k1_grant 1 00100001 FFF00000 00000001
-bad_list 'three words' 1 00100000 00080000
-bad_list 'five words' $k1_grant 1
+bad_list 'role 0' $k1_grant 0 00100000 00080000 00080000 0
+bad_list 'role 4' $k1_grant 4 00100000 00080000 00080000 0
+bad_list 'no reach' $k1_grant 1 00100000 00080000 0 0
+bad_list 'above 2^32' $k1_grant 1 00100001 FFF00000 00000001 0
+bad_list 'memory 2' $k1_grant 1 00100000 00080000 00080000 2
+bad_list 'memory 2^32 - 1' 1 00100000 00080000 00080000 FFFFFFFF
+bad_list 'the first scaler in memory 1' $k1_grant 2 00100000 00080000 00080000 1
+bad_list 'the second scaler in memory 1' 3 00100000 00080000 00080000 1 $k1_grant
+bad_list 'the first scaler in memory 1, and no room' 2 00100000 00080000 00080001 1
+bad_list 'four words' $four_words
+bad_list 'six words' $k1_grant 1
+bad_list 'two grants of four words' $four_words $four_words
+bad_list 'five grants of four words' $four_words $four_words $four_words $four_words $four_words
 denied 'an offset' 3 0 $k1_grant -- 0
 denied 'a packet that is cut' 10 2 $k1_grant -- 0002043C 00010000
 denied 'the second packet' 9 5 $k1_grant -- $k1_batch 0002043C 00010000 50001001

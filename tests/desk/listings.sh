@@ -68,7 +68,12 @@ comes_back '95 cells'
 
 unwritable 'a scaler address' 'cells=1\nreg=23ec val=00000010\n' 89
 unwritable 'a target that is not granted' 'cells=1\nreg=01.00.50 val=00001001\n' 1
+unwritable 'a target in the other memory' 'cells=2\nreg=01.00.50 val=00001000\nreg=01.00.51 val=00100000\n' 1
+unwritable 'a target in no memory' 'cells=2\nreg=01.00.50 val=00001000\nreg=01.00.51 val=00200000\n' 1
+unwritable 'no memory, and no target' 'cells=1\nreg=01.00.51 val=00200000\n' 2
 unwritable 'a bit that must be clear' 'cells=1\nreg=01.00.3f val=00000800\n' 0
+unwritable 'a bit that must be clear, and a target in the other memory' \
+    'cells=3\nreg=01.00.3f val=00000800\nreg=01.00.50 val=00001000\nreg=01.00.51 val=00100000\n' 0
 unwritable 'a format byte' 'cells=1\nreg=01.00.52 val=00940000\n' 3
 unwritable 'a shrinking filter alone' 'cells=1\nreg=02.23.31 val=00000800\n' 46
 unwritable 'two bad cells' 'cells=3\nreg=01.00.50 val=00001000\nreg=02.23.31 val=00004080\nreg=23ec val=00000010\n' 46

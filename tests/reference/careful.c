@@ -16,15 +16,15 @@
 
 enum reason {
     OK, BAD_STATE, BAD_GRANTS, BAD_OFFSET, BAD_COUNT, BAD_SETTING, NO_REGISTER, BIT_SET, BAD_VALUE, NOT_GRANTED, ENDS_INSIDE,
-    NO_ROOM, NOT_WRITABLE, BAD_BUFFER, NOT_A_LISTING = 19
+    NO_ROOM, NOT_WRITABLE, BAD_BUFFER, BAD_PAIR, NOT_A_LISTING = 19
 };
 
 enum {
     CELLS = 101, STATE_BYTES = 4 * 2 * CELLS,
-    FIRST_STAGE = 4, FIRST_SAMPLE = 36, FIRST_VIDEO = 84, /* cells */
+    TARGET_ADDRESS = 1, TARGET_MEMORY = 2, FIRST_STAGE = 4, FIRST_SAMPLE = 36, FIRST_VIDEO = 84, /* cells */
     TARGET_SIZE = 4, STAGE_SIZE = 2, SAMPLE_SIZE = 3,     /* registers of each */
     STAGES = 16, SAMPLES = 16,
-    GRANT_WORDS = 4, MOST_GRANTS = 64,
+    GRANT_WORDS = 5, MOST_GRANTS = 64, MEMORIES = 2,
     MOST_BYTES = 65536,
     OFFSET_3D = 0x043c
 };
@@ -113,33 +113,35 @@ struct ranges {
 };
 
 struct grants {
-    struct ranges target, first_scaler, second_scaler;
+    struct ranges target[MEMORIES], first_scaler, second_scaler;
 };
 
-static inline struct ranges *ranges_of(struct grants *grants, uint32_t role)
+/* The scalers are granted memory 0 alone. */
+static inline struct ranges *ranges_of(struct grants *grants, uint32_t role, uint32_t memory)
 {
     switch (role) {
     case 1:
-        return &grants->target;
+        return memory == 0 ? &grants->target[0] : memory == 1 ? &grants->target[1] : NULL;
     case 2:
-        return &grants->first_scaler;
+        return memory == 0 ? &grants->first_scaler : NULL;
     case 3:
-        return &grants->second_scaler;
+        return memory == 0 ? &grants->second_scaler : NULL;
     default:
         return NULL;
     }
 }
 
-/* Looks at each grant once and keeps it by its role. Returns 0 if the list breaks its rules. */
+/* Looks at each grant once and keeps it by its role and its memory. Returns 0 if the list breaks its rules. */
 static inline int keep_grants(struct grants *kept, const uint8_t *grants, size_t words)
 {
-    kept->target.count = 0;
+    for (size_t memory = 0; memory < MEMORIES; memory++)
+        kept->target[memory].count = 0;
     kept->first_scaler.count = 0;
     kept->second_scaler.count = 0;
     if (words % GRANT_WORDS != 0 || words > MOST_GRANTS * GRANT_WORDS)
         return 0;
     for (size_t i = 0; i < words; i += GRANT_WORDS) {
-        struct ranges *ranges = ranges_of(kept, load(grants, i));
+        struct ranges *ranges = ranges_of(kept, load(grants, i), load(grants, i + 4));
         uint32_t start = load(grants, i + 1), length = load(grants, i + 2), reach = load(grants, i + 3);
         if (ranges == NULL || (uint64_t)start + length > (uint64_t)1 << 32 || reach < 1)
             return 0;
@@ -155,6 +157,12 @@ static inline int is_granted(const struct ranges *ranges, uint32_t address)
         if (address - ranges->range[i].start <= ranges->range[i].width)
             return 1;
     return 0;
+}
+
+/* In whichever memory. */
+static inline int is_granted_target(const struct grants *grants, uint32_t address)
+{
+    return is_granted(&grants->target[0], address) || is_granted(&grants->target[1], address);
 }
 
 /* ---- the registers: OK if a value may be written, else the reason why not */
@@ -184,11 +192,11 @@ static inline enum reason check_target(uint32_t sub_address, uint32_t word, cons
             return BIT_SET;
         return bits(word, 22, 12) <= 1024 && bits(word, 10, 0) <= 1024 ? OK : BAD_VALUE;
     case 0x50:
-        return is_granted(&grants->target, bits(word, 23, 0) * 256) ? OK : NOT_GRANTED;
+        return is_granted_target(grants, bits(word, 23, 0) * 256) ? OK : NOT_GRANTED;
     case 0x51:
         if ((word & 0x0fffff) != 0)
             return BIT_SET;
-        return bits(word, 21, 20) == 0 ? OK : BAD_VALUE;
+        return bits(word, 21, 20) < MEMORIES ? OK : BAD_VALUE;
     case 0x52:
         if ((word & 0x006fff) != 0)
             return BIT_SET;
@@ -299,6 +307,26 @@ static inline enum reason check_video(size_t cell, uint32_t word, const struct g
     }
 }
 
+/* ---- the pair: the target's address, and the memory that it is in */
+
+static inline int is_24_bits(uint32_t value)
+{
+    return value < (uint32_t)1 << 24;
+}
+
+/* An unmarked value is 0, and so names memory 0. A state may come with 2 or 3, which name none. */
+static inline uint32_t target_memory(const uint8_t *state)
+{
+    return bits(value_of(state, TARGET_MEMORY), 21, 20);
+}
+
+static inline int is_pair_granted(const uint8_t *state, const struct grants *grants)
+{
+    uint32_t value = value_of(state, TARGET_ADDRESS), memory = target_memory(state);
+    return mark_of(state, TARGET_ADDRESS) == 0
+        || (is_24_bits(value) && memory < MEMORIES && is_granted(&grants->target[memory], value * 256));
+}
+
 /* ---- the reader */
 
 static inline uint32_t sub_address_of(uint32_t word)
@@ -322,22 +350,27 @@ static inline size_t target_cell(uint32_t sub_address)
     case 0x3f:
         return 0;
     case 0x50:
-        return 1;
+        return TARGET_ADDRESS;
     case 0x51:
-        return 2;
+        return TARGET_MEMORY;
     default: /* 52 */
         return 3;
     }
 }
 
-static inline uint64_t read_target(const uint8_t *batch, size_t first, size_t end, const struct grants *grants, uint8_t *state)
+/* Says also whether it wrote a cell of the pair. */
+static inline uint64_t read_target(const uint8_t *batch, size_t first, size_t end, const struct grants *grants, uint8_t *state,
+                                   int *wrote_pair)
 {
     for (size_t at = first; at < end; at++) {
         uint32_t word = load(batch, at);
         enum reason reason = check_target(sub_address_of(word), word, grants);
         if (reason != OK)
             return answer(at, reason);
-        set_cell(state, target_cell(sub_address_of(word)), data_of(word));
+        size_t cell = target_cell(sub_address_of(word));
+        set_cell(state, cell, data_of(word));
+        if (cell == TARGET_ADDRESS || cell == TARGET_MEMORY)
+            *wrote_pair = 1;
     }
     return OK;
 }
@@ -369,7 +402,7 @@ static inline uint64_t read_sample(const uint8_t *batch, size_t first, size_t en
 }
 
 static inline uint64_t read_3d(const uint8_t *batch, size_t header_at, size_t end, uint32_t count, const struct grants *grants,
-                               uint8_t *state)
+                               uint8_t *state, int *wrote_pair)
 {
     size_t setting_at = header_at + 1, first = header_at + 2;
     if (count < 2 || count > 113)
@@ -378,7 +411,7 @@ static inline uint64_t read_3d(const uint8_t *batch, size_t header_at, size_t en
         return OK;
     uint32_t setting = load(batch, setting_at), n = bits(setting, 27, 24);
     if (setting == 0x00010000)
-        return read_target(batch, first, end, grants, state);
+        return read_target(batch, first, end, grants, state, wrote_pair);
     switch (setting & 0xf0ffffff) { /* all but n, which may be anything */
     case 0x00020000:
         return read_stage(batch, first, end, n, state);
@@ -429,16 +462,19 @@ static inline uint64_t read_video(const uint8_t *batch, size_t header_at, size_t
 static inline uint64_t read_batch(const uint8_t *batch, size_t words, const struct grants *grants, uint8_t *state)
 {
     size_t at = 0;
+    int wrote_pair = 0;
     while (at < words) {
         uint32_t header = load(batch, at), count = bits(header, 31, 16), offset = bits(header, 15, 0);
         size_t next = at + 1 + count, end = next < words ? next : words;
-        uint64_t refusal = offset == OFFSET_3D ? read_3d(batch, at, end, count, grants, state)
+        uint64_t refusal = offset == OFFSET_3D ? read_3d(batch, at, end, count, grants, state, &wrote_pair)
                                                : read_video(batch, at, end, count, video_cell(offset), grants, state);
         if (refusal != OK)
             return refusal;
         at = next;
     }
-    return answer(words, at == words ? OK : ENDS_INSIDE);
+    if (at != words)
+        return answer(words, ENDS_INSIDE);
+    return answer(words, wrote_pair && !is_pair_granted(state, grants) ? BAD_PAIR : OK);
 }
 
 uint64_t careful_read(const uint8_t *batch, size_t batch_len,
@@ -485,14 +521,12 @@ static inline size_t marked_from(const uint8_t *state, size_t first, size_t size
 
 /* ---- the writer */
 
-static inline int is_24_bits(uint32_t value)
-{
-    return value < (uint32_t)1 << 24;
-}
-
+/* Of the target's address the pair asks all that its register does, and the memory besides. */
 static inline int can_write_target(const uint8_t *state, size_t cell, size_t i, const struct grants *grants)
 {
     uint32_t value = value_of(state, cell);
+    if (cell == TARGET_ADDRESS)
+        return is_pair_granted(state, grants);
     return mark_of(state, cell) == 0 || (is_24_bits(value) && check_target(target_addresses[i], value, grants) == OK);
 }
 
@@ -911,7 +945,7 @@ enum { NO_ROLE, NO_GRANT = MOST_GRANTS };
 static inline uint32_t role_of(uint32_t cell)
 {
     switch (cell) {
-    case 1:
+    case TARGET_ADDRESS:
         return 1;
     case 89:
     case 90:
@@ -927,7 +961,7 @@ static inline uint32_t role_of(uint32_t cell)
 }
 
 struct asked {
-    uint32_t role;
+    uint32_t role, memory;
     uint64_t address; /* a target's may be one past all memory: a state can hold more than 24 bits */
 };
 
@@ -935,9 +969,11 @@ static inline struct asked asked_of(const uint8_t *state, uint32_t cell)
 {
     uint32_t role = role_of(cell);
     if (role == NO_ROLE || mark_of(state, cell) == 0)
-        return (struct asked){ NO_ROLE, 0 };
+        return (struct asked){ NO_ROLE, 0, 0 };
     uint32_t value = value_of(state, cell);
-    return (struct asked){ role, role == 1 ? (uint64_t)value * 256 : bits(value, 28, 4) << 4 };
+    if (role == 1)
+        return (struct asked){ role, target_memory(state), (uint64_t)value * 256 };
+    return (struct asked){ role, 0, bits(value, 28, 4) << 4 };
 }
 
 /*
@@ -950,11 +986,11 @@ static inline uint64_t find_grant(const uint8_t *grants, size_t words, struct as
     if (words % GRANT_WORDS != 0 || words > MOST_GRANTS * GRANT_WORDS)
         return answer(0, BAD_GRANTS);
     for (size_t i = 0; i < words; i += GRANT_WORDS) {
-        uint32_t role = load(grants, i);
+        uint32_t role = load(grants, i), memory = load(grants, i + 4), memories = role == 1 ? MEMORIES : 1;
         uint64_t start = load(grants, i + 1), end = start + load(grants, i + 2), reach = load(grants, i + 3);
-        if (role < 1 || role > 3 || end > (uint64_t)1 << 32 || reach < 1)
+        if (role < 1 || role > 3 || end > (uint64_t)1 << 32 || reach < 1 || memory >= memories)
             return answer(0, BAD_GRANTS);
-        if (found == NO_GRANT && role == asked.role && start <= asked.address && asked.address + reach <= end)
+        if (found == NO_GRANT && role == asked.role && memory == asked.memory && start <= asked.address && asked.address + reach <= end)
             found = i / GRANT_WORDS;
     }
     return answer(found, OK);

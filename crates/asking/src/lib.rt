@@ -44,7 +44,7 @@ fn wide(byte: u8) -> usize
 }
 
 // The part of a role. It ends where the room does, whatever the bytes are.
-fn part_of(bounds: &ByteBounds, role: usize) -> Part
+pub fn part_of(bounds: &ByteBounds, role: usize) -> Part
     requires role { ⌜ role < 4 ⌝ }
     ensures part { λ r. ⌜ r ≡ partIn (now (bounds .entry)) role ⌝ }
     ensures inside { λ r. ⌜ r .to ≤ mostGrants ⌝ }

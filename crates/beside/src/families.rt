@@ -18,6 +18,7 @@ use super::making::change_word;
 use super::making::damage;
 use super::making::some_batch;
 use super::making::some_grants;
+use super::making::some_pair;
 use super::making::some_state;
 use super::tally::check_read;
 use super::tally::check_write;
@@ -45,6 +46,7 @@ fn check_left(desk: &mut Desk, seed: u32) {
 fn made_up_case(desk: &mut Desk, bad: u32, how: u32, seed: u32) {
     some_grants(desk, dice(seed, 1));
     some_state(desk, dice(seed, 2));
+    some_pair(desk, dice(seed, 6));
     some_batch(desk, bad, dice(seed, 3));
     damage(desk, how, dice(seed, 4));
     if check_read(desk) % 256 == 0 {

@@ -46,13 +46,14 @@ fn some_start(seed: u32, length: u32) -> u32 {
     }
 }
 
-// Roles in turn, so that three grants have all of them.
+// Roles in turn, so that three grants have all of them; the target's are in either memory.
 fn push_grant(desk: &mut Desk, g: u32, seed: u32) {
     let length = dice(seed, 1) >> 8;
     push(desk, GRANTS, g % 3 + 1);
     push(desk, GRANTS, some_start(dice(seed, 2), length));
     push(desk, GRANTS, length);
     push(desk, GRANTS, some_bits(dice(seed, 3)) & 0xffff | 1);
+    push(desk, GRANTS, if g % 3 == 0 { seed % 2 } else { 0 });
 }
 
 fn how_many_grants(seed: u32) -> u32 {
@@ -99,7 +100,7 @@ fn moved(address: u32, seed: u32) -> u32 {
 
 // The first address that some grant covers, or the last, or one a step off.
 fn some_address(desk: &Desk, seed: u32) -> u32 {
-    let g = rest_after(seed >> 8, len(desk, GRANTS) / 4) % 64 * 4;
+    let g = rest_after(seed >> 8, len(desk, GRANTS) / 5) % 64 * 5;
     let start = at(desk, GRANTS, g + 1);
     let room = difference(at(desk, GRANTS, g + 2), at(desk, GRANTS, g + 3));
     moved(
@@ -144,6 +145,30 @@ fn some_value(desk: &Desk, cell: usize, wanted: u32, seed: u32) -> u32 {
         }
     }
     any_value(desk, cell, wanted, seed)
+}
+
+fn put_cell(desk: &mut Desk, cell: usize, mark: u32, v: u32) {
+    put(desk, STATE, cell, v);
+    put(desk, STATE, plus(cell, 101), mark);
+}
+
+// The pair of a state. Cell 1 is as it was, not marked, or has an address: granted or not in some memory, or past 2^32.
+// Cell 2 is as it was, not marked, or names memory 0, 1 or none.
+pub(super) fn some_pair(desk: &mut Desk, seed: u32) {
+    let wanted = if seed % 16 == 9 { 9 } else { 0 };
+    let v = some_value(desk, 1, wanted, dice(seed, 1));
+    match seed % 16 {
+        0..=6 => {}
+        7 => put_cell(desk, 1, 0, 0),
+        8 => put_cell(desk, 1, 1, v | shifted(1, seed / 128 % 8 + 24)),
+        _ => put_cell(desk, 1, 1, v),
+    }
+    match seed / 16 % 8 {
+        0 => {}
+        1 | 2 => put_cell(desk, 2, 0, 0),
+        3 => put_cell(desk, 2, 1, seed / 1024 % 4 << 20),
+        _ => put_cell(desk, 2, 1, seed / 1024 % 2 << 20),
+    }
 }
 
 // Of 32 values so many are to be refused, by 7, 8 or 9.
@@ -213,13 +238,13 @@ fn how_many_values(cell: usize, seed: u32) -> u32 {
     }
 }
 
-// A cell: of 01.00, of the stages, of the samples, or half of the time for video.
+// A cell: often of 01.00, where the pair is, or of the stages, of the samples, or for video.
 fn some_cell(seed: u32) -> usize {
     let thrown = seed as usize / 8;
     match seed % 8 {
-        0 => thrown % 4,
-        1 => thrown % 32 + 4,
-        2 | 3 => thrown % 48 + 36,
+        0 | 1 => thrown % 4,
+        2 => thrown % 32 + 4,
+        3 | 4 => thrown % 48 + 36,
         _ => thrown % 17 + 84,
     }
 }
@@ -247,7 +272,7 @@ pub(super) fn some_batch(desk: &mut Desk, bad: u32, seed: u32) {
 fn changed(word: u32, before: u32, seed: u32) -> u32 {
     match seed % 16 {
         0 => 0,
-        1 => 4,
+        1 => seed / 16 % 5,
         2 => difference(0, before),
         3 => difference(1, before),
         4 => sum(word, 0x10000),

@@ -10,6 +10,7 @@ use super::desk::RIGHT;
 use super::desk::ROUGH;
 use super::desk::STATE;
 use super::desk::at;
+use super::desk::copy;
 use super::desk::difference;
 use super::desk::fill;
 use super::desk::len;
@@ -18,6 +19,7 @@ use super::desk::narrow;
 use super::desk::plus;
 use super::desk::push;
 use super::desk::put;
+use super::desk::shifted;
 use super::desk::sum;
 use super::table::CODES;
 use super::table::ELEVENS;
@@ -42,6 +44,9 @@ const HEADER: usize = 253;
 
 const SETTING: usize = 254;
 
+// The memories that a grant is looked for in, a bit for each of the two.
+const EITHER: u32 = 3;
+
 fn state_is_well_formed(desk: &Desk, list: usize) -> bool {
     for cell in 0..101usize {
         let mark = at(desk, list, cell + 101);
@@ -55,34 +60,49 @@ fn state_is_well_formed(desk: &Desk, list: usize) -> bool {
     len(desk, list) == 202
 }
 
-// The sum as a whole number.
-fn whole_sum(a: u32, b: u32) -> u64 {
-    std::num::wrapping_add_u64(a as u64, b as u64)
+// The sum as a whole number, of numbers below 2^40.
+fn whole_sum(a: u64, b: u64) -> u64 {
+    std::num::wrapping_add_u64(a, b)
 }
 
-// What the grant at a place says of an address of a role: 2 where it breaks the rules, 1 where it covers the address.
-fn grant_says(desk: &Desk, i: usize, whose: u32, address: u32) -> u32 {
+// A grant's role and memory are two that there are: a scaler's grant is in memory 0.
+fn is_somewhere(owner: u32, memory: u32) -> bool {
+    match owner {
+        1 => memory < 2,
+        2 | 3 => memory == 0,
+        _ => false,
+    }
+}
+
+// What the grant at a place says of an address of a role, in those memories: 2 where it breaks the rules, 1 where it
+// covers the address. The address may be any whole number: past 2^32 no grant covers it.
+fn grant_says(desk: &Desk, i: usize, whose: u32, memories: u32, address: u64) -> u32 {
     let owner = at(desk, GRANTS, i);
-    let start = at(desk, GRANTS, plus(i, 1));
-    let end = whole_sum(start, at(desk, GRANTS, plus(i, 2)));
-    let reach = at(desk, GRANTS, plus(i, 3));
-    if owner < 1 || owner > 3 || reach < 1 || end > 0x1_0000_0000 {
+    let start = at(desk, GRANTS, plus(i, 1)) as u64;
+    let end = whole_sum(start, at(desk, GRANTS, plus(i, 2)) as u64);
+    let reach = at(desk, GRANTS, plus(i, 3)) as u64;
+    let memory = at(desk, GRANTS, plus(i, 4));
+    if !is_somewhere(owner, memory) || reach < 1 || end > 0x1_0000_0000 {
         return 2;
     }
-    if owner == whose && start <= address && whole_sum(address, reach) <= end {
+    if owner == whose
+        && shifted(1, memory) & memories != 0
+        && start <= address
+        && whole_sum(address, reach) <= end
+    {
         1
     } else {
         0
     }
 }
 
-// What all grants say of it. They stand four words apart; words past the last whole grant, and a 65th, break the rules.
-fn grants_say(desk: &Desk, whose: u32, address: u32) -> u32 {
+// What all grants say of it. They stand five words apart; words past the last whole grant, and a 65th, break the rules.
+fn grants_say(desk: &Desk, whose: u32, memories: u32, address: u64) -> u32 {
     let n = len(desk, GRANTS);
-    let mut said = if n > 256 || n % 4 != 0 { 2u32 } else { 0u32 };
+    let mut said = if n > 320 || n % 5 != 0 { 2u32 } else { 0u32 };
     for i in 0..n {
-        if i % 4 == 0 {
-            said = said | grant_says(desk, i, whose, address);
+        if i % 5 == 0 {
+            said = said | grant_says(desk, i, whose, memories, address);
         }
     }
     said
@@ -130,7 +150,7 @@ fn codes_are_permitted(v: u32) -> bool {
 fn value_is_permitted(cell: usize, v: u32) -> bool {
     match rule(cell) {
         SIZE => v >> 12 & 0x7ff <= 1024 && v & 0x7ff <= 1024,
-        LOCATION => v >> 20 & 3 == 0,
+        LOCATION => v >> 20 & 3 <= 1,
         FORMAT => format_is_permitted(v >> 16 & 255),
         ELEVENS => v >> 6 & 63 <= 11 && v & 63 <= 11,
         MODES => modes_are_permitted(v),
@@ -138,6 +158,15 @@ fn value_is_permitted(cell: usize, v: u32) -> bool {
         NOT_THREE => v & 3 != 3,
         SCALER => v & 3 == 0,
         _ => true,
+    }
+}
+
+// The address that a value holds, as a whole number: a value of more than 24 bits holds one past 2^32 for the target.
+fn address_in(whose: u32, v: u32) -> u64 {
+    if whose == 1 {
+        (v as u64) << 8
+    } else {
+        v as u64 & 0x1ffffff0
     }
 }
 
@@ -150,12 +179,27 @@ pub(super) fn judge_value(desk: &Desk, cell: usize, v: u32) -> u32 {
         return 8;
     }
     let whose = role(cell);
-    let address = if whose == 1 { v << 8 } else { v & 0x1ffffff0 };
-    if whose == 0 || grants_say(desk, whose, address) == 1 {
+    if whose == 0 || grants_say(desk, whose, EITHER, address_in(whose, v)) == 1 {
         0
     } else {
         9
     }
+}
+
+// The memory that a location names, as its bit: none for 2 and 3. A cell that is not marked holds 0, and names memory 0.
+fn memory_named(location: u32) -> u32 {
+    match location >> 20 & 3 {
+        0 => 1,
+        1 => 2,
+        _ => 0,
+    }
+}
+
+// Cell 1 of the state in that list is not marked, or its address is granted in the memory that cell 2 names.
+fn pair_is_fine(desk: &Desk, list: usize) -> bool {
+    let address = address_in(1, at(desk, list, 1));
+    let memory = memory_named(at(desk, list, 2));
+    at(desk, list, 102) == 0 || grants_say(desk, 1, memory, address) == 1
 }
 
 fn setting_is_allowed(setting: u32) -> bool {
@@ -289,7 +333,35 @@ fn judge_lists(desk: &Desk, state: usize) -> u32 {
     if !state_is_well_formed(desk, state) {
         return 1;
     }
-    grants_say(desk, 0, 0) & 2
+    grants_say(desk, 0, 0, 0) & 2
+}
+
+fn is_of_pair(what: u32) -> bool {
+    what == 1 || what == 2
+}
+
+// The batch writes cell 1 or cell 2.
+fn writes_pair(desk: &Desk) -> bool {
+    let n = len(desk, BATCH);
+    for i in 0..n {
+        if is_of_pair(at(desk, CELLS, i)) {
+            return true;
+        }
+    }
+    false
+}
+
+// Stores what the batch writes, of which no word is refused: all of it, or nothing where it does not keep the pair.
+fn store_kept(desk: &mut Desk) -> u64 {
+    copy(desk, RIGHT, ROUGH);
+    store(desk);
+    let seen = &*desk;
+    let n = len(seen, BATCH);
+    if writes_pair(seen) && !pair_is_fine(seen, RIGHT) {
+        copy(desk, ROUGH, RIGHT);
+        return answer(14, n);
+    }
+    answer(0, n)
 }
 
 // Reads the batch into the state at RIGHT.
@@ -301,14 +373,16 @@ pub(super) fn read(desk: &mut Desk) -> u64 {
     let next = mark_words(desk);
     let told = judge_words(desk, next);
     if told % 256 == 0 {
-        store(desk);
+        return store_kept(desk);
     }
     told
 }
 
 fn is_refused(desk: &Desk, cell: usize) -> bool {
     let v = at(desk, STATE, cell);
-    value_in(cell, v) != v || judge_value(desk, cell, v) != 0
+    value_in(cell, v) != v
+        || judge_value(desk, cell, v) != 0
+        || cell == 1 && !pair_is_fine(desk, STATE)
 }
 
 // The lowest marked cell that cannot be written, or NONE.

@@ -78,10 +78,19 @@ fn agree(desk: &Desk, first: u64, other: u64) -> bool {
     kept && first == other && same(desk, LEFT, RIGHT)
 }
 
-// Counts an answer in the line of its reason: 23 stands behind 12.
+// The line of a reason: behind 12 stand 14 and 23.
+fn line_of_reason(reason: usize) -> usize {
+    match reason {
+        14 => 13,
+        23 => 14,
+        _ => reason,
+    }
+}
+
+// Counts an answer in the line of its reason.
 fn count_reason(desk: &mut Desk, told: u64, column: usize) {
-    let reason = (told % 256) as usize;
-    add_one(desk, plus(minus(reason, reason / 16 * 10) << 2, column));
+    let line = line_of_reason((told % 256) as usize);
+    add_one(desk, plus(line << 2, column));
 }
 
 // An engine's answer, to opening, to a word or to closing, beside the one that is due.
@@ -171,9 +180,9 @@ fn tell_table(desk: &Desk, name: &[u8], start: usize, end: usize) {
 pub(super) fn tell(desk: &Desk) {
     tell_table(
         desk,
-        b"reasons 0 to 12 and 23, a line each: reads, writes, openings and words fed, closings\n",
+        b"reasons 0 to 12, 14 and 23, a line each: reads, writes, openings and words fed, closings\n",
         0,
-        56,
+        60,
     );
     tell_table(
         desk,

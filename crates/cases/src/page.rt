@@ -3,6 +3,8 @@
 //
 //   reason place | cell value .. | grants | batch
 //       A case written by hand, with what it stores.
+//   @ reason place | cell value .. | grants | batch | cell value ..
+//       The same from the state with the last part's cells.
 //   ~ times word shift width, reason place, reason place | low high .. | grants | batch
 //       Every code of a field of that word of the batch: the first answer for a code that is not listed, the second
 //       for one that is; reason 99 states that it is not the other one. A shift of 99 changes one bit, the code's,
@@ -11,6 +13,8 @@
 //       A packet that needs no grant. The first 16 stand in front of the cases written by hand.
 //   * list reason most | | grants
 //       Every length below the most of the state (list 1) or of the grants (list 6), with the reason of a wrong one.
+//   % cases
+//       So many cases of the pair.
 //   > | cell value ..
 //       A state, with its listing on the lines below, up to an empty one: in every room.
 //
@@ -41,6 +45,7 @@ use super::desk::put;
 use super::desk::put_byte;
 use super::desk::shifted;
 use super::desk::sum;
+use super::pairs;
 use super::tally::UNSTATED;
 use super::tally::begin_case;
 use super::tally::begin_family;
@@ -109,14 +114,16 @@ fn take_numbers(desk: &mut Desk, page: &[u8], start: usize, end: usize) {
     }
 }
 
-// Puts the line's numbers on the desk, each part in its list, beside the empty state.
+// Puts the line's numbers on the desk, each part in its list, beside the empty state; a fifth part goes into that state.
 fn take_line(desk: &mut Desk, page: &[u8], start: usize, end: usize) {
     fill(desk, LINE, 0, 0);
     fill(desk, STORED, 0, 0);
     fill(desk, GRANTS, 0, 0);
     fill(desk, BATCH, 0, 0);
+    fill(desk, KEPT, 0, 0);
     fill(desk, STATE, 0, 202);
     take_numbers(desk, page, start, end);
+    lay_cells(desk, KEPT, STATE);
     copy(desk, BATCH, KEPT);
 }
 
@@ -124,23 +131,28 @@ fn byte_at(page: &[u8], i: usize) -> u8 {
     if i < page.len() { page[i] } else { 10 }
 }
 
-fn leave_cell(desk: &mut Desk, i: usize) {
+fn lay_cell(desk: &mut Desk, from: usize, to: usize, i: usize) {
     let seen = &*desk;
-    let cell = at(seen, STORED, i) as usize;
-    let v = at(seen, STORED, plus(i, 1));
-    put(desk, RIGHT, cell, v);
-    put(desk, RIGHT, plus(cell, 101), 1);
+    let cell = at(seen, from, i) as usize;
+    let v = at(seen, from, plus(i, 1));
+    put(desk, to, cell, v);
+    put(desk, to, plus(cell, 101), 1);
+}
+
+// Stores the cells of one list, each with the value behind it, in the state at another.
+fn lay_cells(desk: &mut Desk, from: usize, to: usize) {
+    let n = len(desk, from);
+    for i in 0..n {
+        if i % 2 == 0 {
+            lay_cell(desk, from, to, i);
+        }
+    }
 }
 
 // The state that the case leaves, at RIGHT: the one at STATE with the line's cells stored.
 fn leave(desk: &mut Desk) {
     copy(desk, STATE, RIGHT);
-    let n = len(desk, STORED);
-    for i in 0..n {
-        if i % 2 == 0 {
-            leave_cell(desk, i);
-        }
-    }
+    lay_cells(desk, STORED, RIGHT);
 }
 
 // What the line states, of a case that so many words stand in front of. Reasons 1 and 2 stand at 0.
@@ -193,14 +205,19 @@ fn case_behind(desk: &mut Desk, packets: u32) {
     check_read(desk, expected, UNSTATED);
 }
 
-fn written(desk: &mut Desk) {
-    case_alone(desk);
-    full_state(desk);
+// The case on the state that is there, alone and behind fronts.
+fn entered(desk: &mut Desk) {
     case_alone(desk);
     for packets in 1..33u32 {
         begin_case(desk, packets);
         case_behind(desk, packets);
     }
+}
+
+fn written(desk: &mut Desk) {
+    case_alone(desk);
+    full_state(desk);
+    entered(desk);
 }
 
 fn is_between(code: u32, low: u32, high: u32) -> bool {
@@ -287,7 +304,7 @@ fn length_answer(list: usize, n: u32, reason: u32) -> u64 {
     let whole = if list == STATE {
         n == 202
     } else {
-        n % 4 == 0 && n <= 256
+        n % 5 == 0 && n <= 320
     };
     answer(if whole { 0 } else { reason }, 0)
 }
@@ -367,6 +384,8 @@ fn run_taken(desk: &mut Desk, page: &[u8], byte: u8, end: usize) {
         b'~' => sweep(desk),
         b'+' => add_to_pool(desk),
         b'*' => lengths(desk),
+        b'@' => entered(desk),
+        b'%' => pairs::go_through(desk),
         b'>' => listing(desk, page, end),
         _ => written(desk),
     }
@@ -378,7 +397,7 @@ fn run_line(desk: &mut Desk, page: &[u8], start: usize, end: usize) {
     let byte = byte_at(page, start);
     match byte {
         b'=' => next_family(desk, page, plus(start, 2), minus(end, 1)),
-        b'~' | b'+' | b'*' | b'>' | b'0'..=b'9' => {
+        b'~' | b'+' | b'*' | b'@' | b'%' | b'>' | b'0'..=b'9' => {
             take_line(desk, page, start, end);
             run_taken(desk, page, byte, end);
         }

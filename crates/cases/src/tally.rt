@@ -193,12 +193,18 @@ pub(super) fn end_family(desk: &Desk, page: &[u8]) {
     end_line();
 }
 
+fn tell_reason(desk: &Desk, reason: usize) {
+    say(b"reason=", reason as u64);
+    say_count(desk, b" calls=", reason);
+    end_line();
+}
+
+// Those of the reader and the lister.
 pub(super) fn tell_reasons(desk: &Desk) {
     for reason in 0..12usize {
-        say(b"reason=", reason as u64);
-        say_count(desk, b" calls=", reason);
-        end_line();
+        tell_reason(desk, reason);
     }
+    tell_reason(desk, 14);
 }
 
 pub(super) fn tell_end(desk: &Desk) {

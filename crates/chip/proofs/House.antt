@@ -7,35 +7,41 @@ use mathlib.Core.Bool.{Bool, true, Bool·beq, _||_}
 use mathlib.Core.List.{List, [], _∷_, _++_}
 use Prim.Native.Nat.{ℕ, zero, suc, _+_, _*_, _/_, _%_, _≤_, _<_, _^_}
 use native.Mathlib.Omega.{arith}
-use lib.Dec.{T, leb, eqb, ltb, lit<}
+use lib.Dec.{T, eqb, ltb, lit<}
 use lib.ListN.{length, replicate}
 use lib.Bits.{and-comm, and-zero-l}
-use mir.Facts.{and-yes, or-yes, eqb-yes, ltb-yes, leb-yes}
+use mir.Facts.{or-yes, eqb-yes, ltb-yes}
 use Rattle.laws.specs.Lists.{All, every, some, join, from}
-use Rattle.laws.specs.Tests.{within, oneOf}
-use Rattle.laws.proofs.Lists.{all-append, every-from, every-some}
+use Rattle.laws.specs.Tests.{oneOf}
+use Rattle.laws.proofs.Lists.{all-append, every-from}
 use Rattle.laws.proofs.Tests.{beq-iff}
 use Rattle.meaning.specs.declared.Answer.{Answer}
 use Rattle.meaning.specs.declared.Cell.{Cell}
+use Rattle.meaning.specs.declared.Memory.{Memory}
+use Rattle.meaning.specs.declared.Memory.the-variants.{Either, Only}
 use Rattle.meaning.specs.Words.{Word, bits}
 use Rattle.meaning.specs.Registers.{cells, cell, any, target, scaled, Register, registerAt, registerIn, registerAmong, targetGroup, stage, sample, overlay, scaler, Section, of3D, ofVideo, sections, memoryLocation, alphaConstants, location, formatByte, levels, filters, mapping, alphaSelect, formats, bytesAmong, bytesPerPixel}
-use Rattle.meaning.specs.Grants.{Terms, termsOf, grantsOf, grantFine, mostGrants, grantsFine, covers, granted}
+use Rattle.meaning.specs.Grants.{Grant, Terms, termsOf, grantsOf, grantsFine, granted}
 use Rattle.meaning.specs.Batch.{Fits}
 use Rattle.meaning.specs.State.{valueAt, markAt, isMark, marked, countIn, cellFormed, wellFormed, empty, allWrites}
+use Rattle.meaning.specs.Pair.{memoryOf, pairFine}
 use Rattle.meaning.specs.Reader.{unless, valueReason, readAnswer, readLeaves}
 use Rattle.meaning.specs.Answers.{answer}
 use Rattle.meaning.specs.Writer.{countRows, packetNeed, needAmong, needFor, mostWritten, written, writable, writeAnswer}
-use Rattle.meaning.specs.Reasons.{MayHold, CellFine, WriterGives}
+use Rattle.meaning.specs.Reasons.{MayHold, CellFine, Writable, WriterGives}
 use Rattle.meaning.proofs.Samples.{address-fits}
 use Rattle.meaning.proofs.Table.{Sections, rowsAmong, table, all-rows}
 use Rattle.meaning.proofs.Writing.{need-is-length, count-3D, count-video, written-at-most}
-use Rattle.meaning.proofs.States.{Sound, sound-writes}
+use Rattle.meaning.proofs.States.{formed-iff, Sound, sound-writes}
 use Rattle.meaning.proofs.Round.{packets-fine, left-by, writable-iff}
 use Rattle.meaning.proofs.Exactly.{accepted-cut}
 use Rattle.meaning.proofs.Outputs.{write-answer, wrote, written-back}
+use Rattle.meaning.proofs.Fitter.{granted-iff}
+use Rattle.meaning.proofs.Pairs.{pair-iff}
+use Rattle.pairing.proofs.Kept.{each-fine, nowhere-else}
 use Rattle.chip.specs.Chip.{isAddress, obeys, AllAccepted, leftBy, Full}
 use Rattle.chip.specs.House.{Whole, addressCells, HouseGranted, targetValues, scalerValues, houseValues, house}
-use Rattle.chip.proofs.Switch.{full-stays-full-after, switch-to-full}
+use Rattle.chip.proofs.Switch.{fine-after, full-stays-full-after, switch-to-full}
 
 -- ---- its shape
 
@@ -120,13 +126,21 @@ record Holds (g : Terms) (r : Register) (v : ℕ) : Type 0 where
   narrow : v < 2 ^ r .width
   fits : Fits g r v
 
-holds-target : (g : Terms) (a : ℕ) → a % 256 ≡ 0 → a < 2 ^ 32 → T (granted (g .grants) 1 a)
+-- what is granted in a memory is granted in some
+granted-somewhere : (gs : List Grant) (m : Memory) (role a : ℕ) → T (granted gs m role a) → T (granted gs Either role a)
+granted-somewhere gs m role a t =
+    let i = granted-iff gs m role a .0 t in
+    let h = i .admits in
+    granted-iff gs Either role a .1
+    (record { grant = i .grant; listed = i .listed; admits = record { lies = tt; role-is = h .role-is; from = h .from; to = h .to } })
+
+holds-target : (g : Terms) (a : ℕ) → a % 256 ≡ 0 → a < 2 ^ 32 → T (granted (g .grants) Either 1 a)
     → Holds g (record { width = 24; clear = 0; values = any; holds = target }) (a / 256)
 holds-target g a e l t =
     let again : a / 256 * 256 ≡ a = omega arith in
     record { narrow = omega arith; fits = record { clear = and-comm (a / 256) 0 ∙ and-zero-l (a / 256); value = tt; granted = rw again t } }
 
-holds-scaled : (g : Terms) (role m a : ℕ) → T (eqb (bits 28 4 m) 0) → a % 16 ≡ 0 → a < 2 ^ 29 → T (granted (g .grants) role a)
+holds-scaled : (g : Terms) (role m a : ℕ) → T (eqb (bits 28 4 m) 0) → a % 16 ≡ 0 → a < 2 ^ 29 → T (granted (g .grants) Either role a)
     → Holds g (record { width = 32; clear = m; values = memoryLocation; holds = scaled role }) a
 holds-scaled g role m a z e l t = record { narrow = omega arith; fits = address-fits g role m a z e l t }
 
@@ -136,7 +150,7 @@ holds-cell g c v h = record { narrow = h .narrow; fits = h .fits }
 house-addresses : (g : Terms) (t f s : ℕ) → HouseGranted g t f s → t < 2 ^ 32 → All (λ n. MayHold g (cell n) (valueAt (house t f s) (cell n))) addressCells
 unfolding house registerAt registerIn registerAmong targetGroup stage sample overlay scaler sections from
 house-addresses g t f s h l =
-    let target = holds-target g t (h .target-multiple) l (h .target) in
+    let target = holds-target g t (h .target-multiple) l (granted-somewhere (g .grants) (Only 0) 1 t (h .target)) in
     let first0 = holds-scaled g 2 0x2000000C f tt (h .first-multiple) (h .first-small) (h .first) in
     let first = holds-scaled g 2 0xE000000C f tt (h .first-multiple) (h .first-small) (h .first) in
     let second0 = holds-scaled g 3 0x2000000C s tt (h .second-multiple) (h .second-small) (h .second) in
@@ -168,6 +182,13 @@ house-cells g t f s h l c k m =
       | inr b ↦ writable-iff g (house t f s) (cell c) .0 b m
     ]
 
+-- cell 2 holds 0, and T4 "the target's in memory 0"
+house-pair : (g : Terms) (t f s : ℕ) → HouseGranted g t f s → T (pairFine g (house t f s))
+unfolding house memoryOf
+house-pair g t f s h =
+    let again : t / 256 * 256 ≡ t = omega (arith, h .target-multiple) in
+    pair-iff g (house t f s) .1 (λ m. rw again (h .target))
+
 -- ---- a program's states
 
 -- what the batches of a program leave is sound under its grants
@@ -180,49 +201,46 @@ sound-after grants st (b ∷ bs) w a s =
     let now = sound-writes (termsOf grants) st (allWrites (c .packets)) (packets-fine (termsOf grants) (c .packets) (c .permitted) words) s in
     sound-after grants (readLeaves b grants st) bs (w .1) (a .1) (rw (left-by b grants st (a .0) c) now)
 
+-- a sound state with a fine pair is what the writer takes
+sound-writable : (g : Terms) (st : List ℕ) → Sound g st → T (pairFine g st) → (c : ℕ) → c < cells → Writable g st (cell c)
+sound-writable g st s p c l = record { value = s .fine c l; pair = λ e. p }
+
 replicate-words : (n v : ℕ) → Word v → All Word (replicate n v)
 replicate-words zero v w = tt
 replicate-words (suc n) v w = (w, replicate-words n v w)
 
 -- ---- the state of the house is written
 
--- a target that is granted under a fine list is a word
-target-small : (grants : List ℕ) (a : ℕ) → T (grantsFine grants) → T (granted (grantsOf grants) 1 a) → a < 2 ^ 32
-unfolding grantsFine grantFine granted covers
-target-small grants a l t =
-    let each = and-yes (leb (length grants / 4) mostGrants) _ (and-yes (eqb (length grants % 4) 0) _ l .1) .1 in
-    let x = every-some grantFine (covers 1 a) (grantsOf grants) each t in
-    let ends = and-yes (leb (x .0 .start + x .0 .length) (2 ^ 32)) _ (and-yes (within 1 3 (x .0 .role)) _ (x .1) .1) in
-    let there = and-yes (leb (x .0 .start) a) _ (and-yes (eqb (x .0 .role) 1) _ (x .2) .1) in
-    let below : x .0 .start + x .0 .length ≤ 2 ^ 32 = leb-yes (ends .0) in
-    let reach : 1 ≤ x .0 .reach = leb-yes (ends .1) in
-    let inside : a + x .0 .reach ≤ x .0 .start + x .0 .length = leb-yes (there .1) in
-    omega arith
-
 module _ (grants : List ℕ) (t f s : ℕ) (l : T (grantsFine grants)) (h : HouseGranted (termsOf grants) t f s) where
+  -- a target that is granted under a fine list is a word
+  target-small : t < 2 ^ 32
+  target-small = nowhere-else (grantsOf grants) (each-fine grants l) 0 1 t (h .target) .1
+
+  house-sound : Sound (termsOf grants) (house t f s)
+  house-sound = record { formed = formed-iff (house t f s) .0 (house-formed t f s); fine = house-cells (termsOf grants) t f s h target-small }
+
+  house-fine : T (pairFine (termsOf grants) (house t f s))
+  house-fine = house-pair (termsOf grants) t f s h
+
   -- under any fine grant list that grants the three addresses, in 184 words
   pub house-is-writable : (room : ℕ) → 184 ≤ room → writeAnswer (house t f s) grants room ≡ answer 0 184
   house-is-writable room k =
       let n = house-184 t f s in
       rw (← n)
       (write-answer (house t f s) grants room
-      (WriterGives.done (house-formed t f s) l (house-cells (termsOf grants) t f s h (target-small grants t l (h .target))) (omega arith)))
-
-  house-sound : Sound (termsOf grants) (house t f s)
-  house-sound = wrote (house t f s) grants 184 (ap (λ (x : Answer). x .reason) (house-is-writable 184 (omega arith))) .1
+      (WriterGives.done (house-formed t f s) l (sound-writable (termsOf grants) (house t f s) house-sound house-fine) (omega arith)))
 
   -- its words, read from the empty state under the same grants, are accepted and leave it: so a program starts
   pub house-starts : (readAnswer (written (house t f s)) grants empty ≡ answer 0 184) × (readLeaves (written (house t f s)) grants empty ≡ house t f s)
   house-starts =
-      let again = written-back (house t f s) grants l house-sound in
+      let again = written-back (house t f s) grants l house-sound house-fine in
       (again .0 ∙ ap (answer 0) (house-184 t f s), again .1)
 
   -- it is words of 32 bits
   pub house-words : All Word (house t f s)
   unfolding house
   house-words =
-      let small = target-small grants t l (h .target) in
-      let wt : Word (t / 256) = omega arith in
+      let wt : Word (t / 256) = omega (arith, target-small) in
       let wf : Word f = omega (arith, h .first-small) in
       let ws : Word s = omega (arith, h .second-small) in
       let z : Word 0 = lit< tt in
@@ -243,10 +261,12 @@ module _ (grants : List ℕ) (t f s : ℕ) (l : T (grantsFine grants)) (h : Hous
         let st = leftBy grants (house t f s) batches in
         let marks = full-stays-full-after grants (house t f s) batches (house-formed t f s) (house-full t f s) in
         let sound = sound-after grants (house t f s) batches words all house-sound in
+        let fine = fine-after grants (house t f s) batches all house-fine in
         record {
           formed = marks .0;
           full = marks .1;
-          written = ap (λ (x : Answer). x .reason) (write-answer st grants mostWritten (WriterGives.done (marks .0) l (sound .fine) (written-at-most st)));
+          written = ap (λ (x : Answer). x .reason)
+              (write-answer st grants mostWritten (WriterGives.done (marks .0) l (sound-writable (termsOf grants) st sound fine) (written-at-most st)));
         }
 
 -- a switch between two such programs leaves nothing of the one that went
@@ -258,4 +278,5 @@ pub whole-is-written : (grants st : List ℕ) (room : ℕ) → Whole grants st �
 whole-is-written grants st room w k =
     let told = wrote st grants mostWritten (w .written) in
     let n = full-184 st (w .full) in
-    rw (← n) (write-answer st grants room (WriterGives.done (w .formed) (told .0) (told .1 .fine) (omega arith)))
+    rw (← n)
+    (write-answer st grants room (WriterGives.done (w .formed) (told .0) (sound-writable (termsOf grants) st (told .1) (told .3)) (omega arith)))

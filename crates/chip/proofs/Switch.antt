@@ -10,23 +10,27 @@ use lib.Dec.{T}
 use lib.ListN.{length, take, drop, take-append-drop}
 use Rattle.laws.specs.Lists.{All}
 use Rattle.laws.proofs.Lists.{all-split}
+use Rattle.meaning.specs.declared.Memory.{Memory}
 use Rattle.meaning.specs.Registers.{cells, cell, Content, nothing, address, registerAt}
 use Rattle.meaning.specs.Grants.{grantsOf, termsOf, Terms}
 use Rattle.meaning.specs.Batch.{Cut}
-use Rattle.meaning.specs.State.{stateWords, markAt, marked, wellFormed, Write, apply, applyAll, allWrites}
+use Rattle.meaning.specs.State.{stateWords, valueAt, markAt, marked, wellFormed, Write, apply, applyAll, allWrites}
+use Rattle.meaning.specs.Pair.{pairFine}
 use Rattle.meaning.specs.Positions.{writesOf}
 use Rattle.meaning.specs.Reader.{readAnswer, readLeaves}
 use Rattle.meaning.specs.Writer.{wordsFor, packetsOf, mostWritten, written, writeAnswer}
-use Rattle.meaning.specs.Fitter.{Inside, Apart, Safe, OfAddress, Stores}
+use Rattle.meaning.specs.Fitter.{Inside, Apart, Safe, OfAddress, Stores, OfTarget}
 use Rattle.meaning.proofs.Writes.{writes-of-cut}
 use Rattle.meaning.proofs.Writing.{chosenFrom, written-permitted, written-writes}
-use Rattle.meaning.proofs.States.{Formed, formed-iff, formed-writes, Sound, laid-over, laid-exactly, length-applied, Each, each-after-all, mark-same, mark-other}
-use Rattle.meaning.proofs.Round.{packets-low, leaves-formed}
-use Rattle.meaning.proofs.Exactly.{accepted-cut}
+use Rattle.meaning.proofs.States.{Formed, formed-iff, formed-writes, Sound, laid-over, unmarked, same-cells, length-applied, Each, each-after-all, mark-same, mark-other}
+use Rattle.meaning.proofs.Round.{packets-low, left-by, leaves-formed}
+use Rattle.meaning.proofs.Exactly.{accepted-permitted, accepted-cut}
 use Rattle.meaning.proofs.Outputs.{wrote}
 use Rattle.meaning.proofs.Bytes.{settle-done, settle-refused}
 use Rattle.meaning.proofs.Fitter.{packets-inside, held-inside, safe-held}
-use Rattle.chip.specs.Chip.{contentAt, isAddress, obeys, obeysAll, AllAccepted, leftBy, Marked, Full, Remarked, AddressesRemarked, LaidOver, EachAddress, Turn, Proper, takes, takesAll}
+use Rattle.pairing.proofs.Entry.{SamePair, same-pair-of, same-pair-fine, same-pair-applied, fine-stays}
+use Rattle.pairing.proofs.Kept.{each-fine, accepted-fine, fine-target, safe-target}
+use Rattle.chip.specs.Chip.{contentAt, isAddress, obeys, obeysAll, AllAccepted, leftBy, Marked, Full, Remarked, AddressesRemarked, PairRemarked, LaidOver, EachAddress, Turn, Proper, takes, takesAll}
 
 -- ---- writes, one after another
 
@@ -79,6 +83,21 @@ module _ (a b grants : List ℕ) (room : ℕ) (e : writeAnswer b grants room .re
       rw (obeys-written (termsOf grants) a b sound)
       (record { size = over .size; marked = λ c l m. over .done c l l m; unmarked = λ c l h. over .else c l (λ k. h) })
 
+  -- a cell that is marked in b, if it was marked, is then as b has it
+  switch-cell : T (wellFormed a) → (c : ℕ) → c < cells → (Marked a c → Marked b c)
+      → (valueAt (obeys a (written b)) (cell c) ≡ valueAt b (cell c)) × (markAt (obeys a (written b)) (cell c) ≡ markAt b (cell c))
+  switch-cell w c l h =
+      let f = formed-iff a .0 w in
+      let over = switch-lays (f .size) in
+      elim (decLt 0 (markAt b (cell c))) [
+        | yes k ↦ over .marked c l k
+        | no k ↦
+            let was = over .unmarked c l k in
+            let z = unmarked (markAt a (cell c)) (λ m. k (h m)) in
+            let y = unmarked (markAt b (cell c)) k in
+            (was .0 ∙ f .clear c l z ∙ sym (sound .formed .clear c l y), was .1 ∙ z ∙ sym y)
+      ]
+
   -- they leave b exactly if every cell that was marked is marked in b
   pub switch-leaves-nothing : T (wellFormed a) → (obeys a (written b) ≡ b) ↔ Remarked a b
   switch-leaves-nothing w =
@@ -89,7 +108,7 @@ module _ (a b grants : List ℕ) (room : ℕ) (e : writeAnswer b grants room .re
               let same : markAt b (cell c) ≡ markAt a (cell c) = ap (λ (x : List ℕ). markAt x (cell c)) (sym q) ∙ switch-lays (f .size) .unmarked c l k .1 in
               absurd (k (omega arith))
         ],
-        λ h. obeys-written (termsOf grants) a b sound ∙ laid-exactly a b f (sound .formed) h,
+        λ h. same-cells (obeys a (written b)) b (switch-lays (f .size) .size) (sound .formed .size) (λ c l. switch-cell w c l (h c l)),
       )
 
   -- a state that marks every cell leaves nothing of what was there
@@ -106,7 +125,7 @@ accepted-low batch grants st e =
 accepted-inside : (grants batch st : List ℕ) → readAnswer batch grants st .reason ≡ 0 → All (Stores (Inside (grantsOf grants))) (writesOf batch)
 accepted-inside grants batch st e =
     let c = accepted-cut batch grants st e in
-    rw (writes-of-cut (termsOf grants) batch c) (packets-inside (termsOf grants) (c .packets) (c .permitted))
+    rw (writes-of-cut (termsOf grants) batch c) (packets-inside (termsOf grants) (accepted-fine batch grants st e) (c .packets) (c .permitted))
 
 length-obeys : (chip batch : List ℕ) → length (obeys chip batch) ≡ length chip
 unfolding obeys
@@ -132,7 +151,7 @@ all-take : {A : Type 0} (P : A → Type 0) (k : ℕ) (xs : List A) → All P xs 
 all-take P k xs a = all-split P (take k xs) (drop k xs) (rw (take-append-drop k xs) a) .0
 
 -- a value that holds no address has whatever is asked of its address
-no-address : (Q : ℕ → ℕ → Type 0) (h : Content) → ¬ T (isAddress h) → OfAddress Q h
+no-address : (Q : Memory → ℕ → ℕ → Type 0) (h : Content) → ¬ T (isAddress h) → OfAddress Q h
 no-address Q nothing n = tt
 no-address Q (address role a) n = absurd (n tt)
 
@@ -145,8 +164,9 @@ module _ (a b grants : List ℕ) (room : ℕ) (e : writeAnswer b grants room .re
   switched : EachAddress (Inside (grantsOf grants)) (obeys a (written b))
   switched c l m =
       let over = switch-lays a b grants room e n in
+      let fine = each-fine grants (wrote b grants room e .0) in
       elim (decLt 0 (markAt b (cell c))) [
-        | yes k ↦ subst (Lies c) (sym (over .marked c l k .0)) (held-inside (termsOf grants) (contentAt b c) (sound a b grants room e .fine c l k .fits .granted))
+        | yes k ↦ subst (Lies c) (sym (over .marked c l k .0)) (held-inside (termsOf grants) fine (contentAt b c) (sound a b grants room e .fine c l k .fits .granted))
         | no k ↦
             let was = over .unmarked c l k in
             subst (Lies c) (sym (was .0)) (no-address (Inside (grantsOf grants)) (contentAt a c) (λ t. k (r c l (omega (arith, was .1)) t)))
@@ -174,6 +194,55 @@ module _ (a b grants : List ℕ) (room : ℕ) (e : writeAnswer b grants room .re
         → EachAddress (Safe (grantsOf grants) (grantsOf theirs)) (obeysAll (obeys a (written b)) batches)
     after-a-switch-apart theirs apart c l m =
         safe-held (grantsOf grants) (grantsOf theirs) apart (contentAt (obeysAll (obeys a (written b)) batches) c) (after-a-switch c l m)
+
+-- ---- the pair
+
+-- the pair that a program's batches leave in the books is fine, if it was
+pub fine-after : (grants st : List ℕ) (batches : List (List ℕ)) → AllAccepted grants st batches → T (pairFine (termsOf grants) st)
+    → T (pairFine (termsOf grants) (leftBy grants st batches))
+fine-after grants st [] a t = t
+fine-after grants st (b ∷ bs) a t =
+    let g = termsOf grants in
+    let p = accepted-permitted b grants st (a .0) in
+    let c = p .cut in
+    fine-after grants (readLeaves b grants st) bs (a .1)
+    (rw (left-by b grants st (a .0) c) (fine-stays g st (allWrites (c .packets)) (packets-low g (c .packets) (c .permitted)) t (p .pair)))
+
+-- where chip and books have the same pair, they have it after the batches
+pair-after : (grants st chip : List ℕ) (batches : List (List ℕ)) → AllAccepted grants st batches → length chip ≡ length st → SamePair chip st
+    → SamePair (obeysAll chip batches) (leftBy grants st batches)
+unfolding obeysAll obeys
+pair-after grants st chip [] a n s = s
+pair-after grants st chip (b ∷ bs) a n s =
+    let left = obeys-reads b grants st (a .0) in
+    pair-after grants (readLeaves b grants st) (obeys chip b) bs (a .1)
+    (length-obeys chip b ∙ n ∙ sym (length-obeys st b) ∙ ap length (sym left)) (rw left (same-pair-applied chip st (writesOf b) s n))
+
+module _ (a b grants : List ℕ) (room : ℕ) (e : writeAnswer b grants room .reason ≡ 0) where
+  -- if the pair on the chip is b's after the written words of b, the target lies inside a grant after the batches
+  target-after : length a ≡ stateWords → SamePair (obeys a (written b)) b → (batches : List (List ℕ)) → AllAccepted grants b batches
+      → OfTarget (Inside (grantsOf grants)) (obeysAll (obeys a (written b)) batches)
+  target-after n same batches all =
+      let g = termsOf grants in
+      let told = wrote b grants room e in
+      let now = obeysAll (obeys a (written b)) batches in
+      let agrees = pair-after grants b (obeys a (written b)) batches all (length-obeys a (written b) ∙ n ∙ sym (told .1 .formed .size)) same in
+      fine-target g now (rw (same-pair-fine g now (leftBy grants b batches) agrees) (fine-after grants b batches all (told .3)))
+
+  module _ (w : T (wellFormed a)) (r : PairRemarked a b) (batches : List (List ℕ)) (all : AllAccepted grants b batches) where
+    -- for any state a of the chip: after the written words of b, and after each batch that is then accepted for b's program, the target's
+    -- address lies, with its reach, inside a grant of that program in the memory that cell 2 of the chip names, if cells 1 and 2, where a
+    -- marks them, are marked in b
+    pub target-after-a-switch : OfTarget (Inside (grantsOf grants)) (obeysAll (obeys a (written b)) batches)
+    target-after-a-switch =
+        target-after (formed-iff a .0 w .size)
+        (same-pair-of (obeys a (written b)) b (λ c l k. switch-cell a b grants room e w c (omega arith) (r c l k))) batches all
+
+    -- and where no byte of one memory is granted to both, it touches nothing that is granted to another program
+    pub target-after-a-switch-apart : (theirs : List ℕ) → Apart (grantsOf grants) (grantsOf theirs)
+        → OfTarget (Safe (grantsOf grants) (grantsOf theirs)) (obeysAll (obeys a (written b)) batches)
+    target-after-a-switch-apart theirs apart =
+        safe-target (grantsOf grants) (grantsOf theirs) apart (obeysAll (obeys a (written b)) batches) target-after-a-switch
 
 -- ---- the chip and the books
 
@@ -216,14 +285,33 @@ takes-length : (chip : List ℕ) (t : Turn) → length (takes chip t) ≡ length
 unfolding takes
 takes-length chip t = length-obeys-all (obeys chip (written (t .state))) (t .batches) ∙ length-obeys chip (written (t .state))
 
+-- what a turn leaves of every chip, it leaves whoever had a turn before
+after-turns : (P : List ℕ → Type 0) (t : Turn) → ((chip : List ℕ) → length chip ≡ stateWords → P (takes chip t))
+    → (chip : List ℕ) (before : List Turn) → length chip ≡ stateWords → P (takesAll chip (before ++ t ∷ []))
+unfolding takesAll
+after-turns P t h chip [] n = h chip n
+after-turns P t h chip (x ∷ before) n = after-turns P t h (takes chip x) before (takes-length chip x ∙ n)
+
 -- whatever programs had their turns before, and whatever the chip held before them: while a program whose state marks every cell has its
--- turn, every address on the chip lies, with its reach, inside a grant of that program
+-- turn, every address on the chip lies, with its reach, inside a grant of that program,
 pub whose-turn : (chip : List ℕ) (before : List Turn) (t : Turn) → length chip ≡ stateWords → All Proper before → Proper t → Full (t .state)
     → EachAddress (Inside (grantsOf (t .grants))) (takesAll chip (before ++ t ∷ []))
-unfolding takesAll takes
-whose-turn chip [] t n all p full =
-    after-a-switch chip (t .state) (t .grants) mostWritten (p .written) n (λ c l m h. full c l) (t .batches) (p .accepted)
-whose-turn chip (x ∷ before) t n all p full = whose-turn (takes chip x) before t (takes-length chip x ∙ n) (all .1) p full
+unfolding takes
+whose-turn chip before t n all p full =
+    after-turns (EachAddress (Inside (grantsOf (t .grants)))) t
+    (λ was m. after-a-switch was (t .state) (t .grants) mostWritten (p .written) m (λ c l k h. full c l) (t .batches) (p .accepted)) chip before n
+
+-- and after its batches the target's does so in the memory that cell 2 of the chip names
+pub target-in-whose-turn : (chip : List ℕ) (before : List Turn) (t : Turn) → length chip ≡ stateWords → All Proper before → Proper t → Full (t .state)
+    → OfTarget (Inside (grantsOf (t .grants))) (takesAll chip (before ++ t ∷ []))
+unfolding takes
+target-in-whose-turn chip before t n all p full =
+    let st = t .state in
+    after-turns (OfTarget (Inside (grantsOf (t .grants)))) t
+    (λ was m.
+    let over = switch-lays was st (t .grants) mostWritten (p .written) m in
+    let same = same-pair-of (obeys was (written st)) st (λ c l k. over .marked c (omega arith) (full c (omega arith))) in
+    target-after was st (t .grants) mostWritten (p .written) m same (t .batches) (p .accepted)) chip before n
 
 -- a well-formed chip stays so
 obeys-formed : (grants st chip : List ℕ) (batches : List (List ℕ)) → AllAccepted grants st batches → Formed chip → Formed (obeysAll chip batches)

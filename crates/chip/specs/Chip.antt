@@ -4,9 +4,10 @@
 use mathlib.Core.Path.{_≡_}
 use mathlib.Core.Bool.{Bool, true, false}
 use mathlib.Core.List.{List, [], _∷_}
-use Prim.Native.Nat.{ℕ, _<_}
+use Prim.Native.Nat.{ℕ, _≤_, _<_}
 use lib.Dec.{T}
 use lib.ListN.{length}
+use Rattle.meaning.specs.declared.Memory.{Memory}
 use Rattle.meaning.specs.Registers.{cells, cell, Content, nothing, address, registerAt}
 use Rattle.meaning.specs.State.{stateWords, valueAt, markAt, applyAll}
 use Rattle.meaning.specs.Positions.{writesOf}
@@ -72,8 +73,12 @@ isAddress (address role a) = true
 abbrev pub AddressesRemarked : List ℕ → List ℕ → Type 0
 AddressesRemarked a b = (c : ℕ) → c < cells → Marked a c → T (isAddress (contentAt a c)) → Marked b c
 
--- P of a role and an address, for D4 "every address in a marked cell of the chip"
-abbrev pub EachAddress : (ℕ → ℕ → Type 0) → List ℕ → Type 0
+-- D4 "if cell 2 is too": the same of cells 1 and 2. Where b marks cell 1 alone, the location that another program left is its location
+abbrev pub PairRemarked : List ℕ → List ℕ → Type 0
+PairRemarked a b = (c : ℕ) → 1 ≤ c → c ≤ 2 → Marked a c → Marked b c
+
+-- P of a memory, a role and an address, for D4 "every address in a marked cell of the chip": a scaler's in memory 0, the target's in either
+abbrev pub EachAddress : (Memory → ℕ → ℕ → Type 0) → List ℕ → Type 0
 EachAddress P st = (c : ℕ) → c < cells → Marked st c → OfAddress P (contentAt st c)
 
 -- ---- turns

@@ -2,7 +2,7 @@
 -- Assumes nothing.
 use mathlib.Core.Path.{_≡_, refl, sym, ap, _∙_}
 use mathlib.Core.Logic.{_≢_}
-use mathlib.Core.Bool.{Bool, true, false, cond}
+use mathlib.Core.Bool.{Bool, true, false, not}
 use mathlib.Core.List.{List, _++_}
 use Prim.Native.Nat.{ℕ, zero, suc, _+_, _-_, _<_}
 use native.Mathlib.Omega.{arith}
@@ -11,13 +11,19 @@ use borrow.Author.Tests.{ne-eqb}
 use lib.Dec.{eqb}
 use lib.ListN.{length, getD, set, length-append, length-set, List·getD-append}
 use lib.Seq.{ext-getD, getD-set-same, getD-set-other, getD-append-add}
+use Rattle.laws.proofs.Arms.{told-true, told-false}
 use Rattle.meaning.specs.Registers.{cells}
 use Rattle.meaning.specs.State.{stateWords}
-use Rattle.meaning.specs.Answers.{endsInside, success, answer}
-use Rattle.meaning.specs.Reader.{ended}
+use Rattle.meaning.specs.Answers.{endsInside, badPair, success, answer}
+use Rattle.meaning.specs.Reader.{unless, ended, paired}
+use Rattle.grants.specs.declared.Part.{Part}
+use Rattle.pair.specs.Marks.{restored}
+use Rattle.pair.specs.Judged.{keptIn}
+use Rattle.asking.specs.Asked.{partIn}
 use Rattle.feeding.specs.Steps.{Standing, closes, leaves}
+use Rattle.engine.specs.declared.Engine.{Engine}
 use Rattle.engine.specs.Bits.{bitOf, marksOf}
-use Rattle.engine.specs.Kept.{closingReason}
+use Rattle.engine.specs.Kept.{closingReason, reasonBehind, pairJudged}
 use Rattle.engine.proofs.Bits.{marks-length, mark-at}
 
 -- ---- the loop over the cells
@@ -70,24 +76,34 @@ all-laid values marks state c full n laid =
 
 -- ---- closing
 
-module _ (s : Standing) (st : List ℕ) {r : ℕ} (told : r ≡ closingReason (s .answer .reason) (s .left)) where
-  -- the answer is that reason at the place that stands
-  by-reason : (b : Bool) → eqb (s .answer .reason) success ≡ b
-      → cond b (answer (ended (s .left) .reason) (s .answer .place)) (s .answer) ≡ answer (cond b (ended (s .left) .reason) (s .answer .reason)) (s .answer .place)
-  by-reason true e = refl
-  by-reason false e = refl
+-- the reason of an engine, from what it is told by
+pub told-of : (e : Engine) {c : ℕ} {p : Part} {r : ℕ} → c ≡ closingReason (e .reason) (e .left) → p ≡ partIn (e .bounds) 1
+    → r ≡ reasonBehind c (keptIn (e .starts) (e .lasts) (e .numbers) p (bitOf (e .marked) 1) (bitOf (e .marked) 2) (e .values ++ marksOf (e .marks)))
+    → r ≡ reasonBehind (closingReason (e .reason) (e .left)) (pairJudged e)
+told-of e stands its told = told ∙ rw (stands, its)
 
-  closes-by : answer r (s .answer .place) ≡ closes s
+module _ (kept : Bool) (s : Standing) (new st : List ℕ) {r : ℕ} (told : r ≡ reasonBehind (closingReason (s .answer .reason) (s .left)) kept) where
+  -- 10 or none, and then the pair, at a place
+  pair-reason : (e p : ℕ) (b : Bool) → eqb e success ≡ b → answer (reasonBehind e kept) p ≡ paired kept (answer e p)
+  pair-reason e p true z = rw z
+  pair-reason e p false z = rw z
+
+  -- the answer is that reason at the place that stands
+  by-reason : (b : Bool) → eqb (s .answer .reason) success ≡ b → answer (reasonBehind (closingReason (s .answer .reason) (s .left)) kept) (s .answer .place) ≡ closes kept s
   unfolding closes
-  closes-by = rw told (sym (by-reason (eqb (s .answer .reason) success) refl))
+  by-reason true z = rw z (pair-reason (ended (s .left) .reason) (s .answer .place) (eqb (ended (s .left) .reason) success) refl)
+  by-reason false z = let stays : closingReason (s .answer .reason) (s .left) ≡ s .answer .reason = rw z in rw (stays, z)
+
+  closes-by : answer r (s .answer .place) ≡ closes kept s
+  closes-by = rw told (by-reason (eqb (s .answer .reason) success) refl)
 
   -- a refusal: the state as it was at opening
-  pub close-refused : r ≢ 0 → {state : List ℕ} → state ≡ st → (answer r (s .answer .place) ≡ closes s) × (state ≡ leaves s st)
+  pub close-refused : r ≢ 0 → {state : List ℕ} → state ≡ st → (answer r (s .answer .place) ≡ closes kept s) × (state ≡ leaves kept s new st)
   unfolding leaves
   close-refused n e = (closes-by, rw (sym closes-by, ne-eqb r 0 n) e)
 
   -- none: with what the words wrote
-  pub close-whole : r ≡ 0 → {state : List ℕ} → state ≡ s .pending → (answer r (s .answer .place) ≡ closes s) × (state ≡ leaves s st)
+  pub close-whole : r ≡ 0 → {state : List ℕ} → state ≡ new → (answer r (s .answer .place) ≡ closes kept s) × (state ≡ leaves kept s new st)
   unfolding leaves
   close-whole z e = (closes-by, rw (sym closes-by, z) e)
 
@@ -102,3 +118,29 @@ ends r (suc k) z n = rw z
 
 pub none : (r k : ℕ) → r ≡ 0 → k ≡ 0 → success ≡ closingReason r k
 none r k z e = rw (z, e)
+
+-- ---- the pair, judged of the state that is laid out
+
+module _ (starts lasts numbers values marks marked : List ℕ) (part : Part) where
+  abbrev pair-kept : Bool
+  pair-kept = keptIn starts lasts numbers part (bitOf marked 1) (bitOf marked 2) (values ++ marksOf marks)
+
+  -- a refusal goes first
+  pub before-pair : (r : ℕ) → r ≢ 0 → r ≡ reasonBehind r pair-kept
+  before-pair r n = rw (ne-eqb r 0 n)
+
+  module _ (r : ℕ) (z : r ≡ 0) {t l : ℕ} (first : t ≡ bitOf marked 1) (second : l ≡ bitOf marked 2) {laid : List ℕ} (is : laid ≡ values ++ marksOf marks)
+      {k : Bool} (judged : k ≡ keptIn starts lasts numbers part t l laid) where
+    same : k ≡ pair-kept
+    same = judged ∙ rw (first, second, is)
+
+    -- 14,
+    pub pair-bad : not k ≡ true → badPair ≡ reasonBehind r pair-kept
+    unfolding unless
+    pair-bad n = rw (z, told-false same n)
+
+    -- or none, and the marks of the pair are given back
+    pub pair-good : not k ≡ false → {back : List ℕ} → back ≡ restored t l laid
+        → (success ≡ reasonBehind r pair-kept) × (back ≡ restored (bitOf marked 1) (bitOf marked 2) (values ++ marksOf marks))
+    unfolding unless
+    pair-good n given = (rw (z, told-true same n), given ∙ rw (first, second, is))

@@ -3,9 +3,12 @@
 use mathlib.Core.Path.{_≡_, refl, sym, ap, _∙_}
 use mathlib.Core.Logic.{_≢_}
 use mathlib.Core.List.{List}
-use Prim.Native.Nat.{ℕ, zero, suc, _+_, _≤_, _<_}
+use Prim.Native.Nat.{ℕ, zero, suc, _+_, _*_, _≤_, _<_}
+use native.Mathlib.Omega.{arith}
 use borrow.Author.Tests.{le-leb, lt-leb, lt-ltb, le-ltb}
 use lib.ListN.{set}
+use mir.Syntax.{w32, w64}
+use mir.Val.{Fits}
 use Rattle.meaning.specs.Registers.{cells}
 use Rattle.meaning.specs.Grants.{Terms}
 use Rattle.meaning.specs.Answers.{engineFull}
@@ -15,6 +18,14 @@ use Rattle.asking.specs.Asked.{kindFrom, askedIn}
 use Rattle.engine.specs.declared.Engine.{Engine}
 use Rattle.engine.specs.Bits.{withMark}
 use Rattle.engine.specs.Kept.{refusedBy, takenBy, toldBy, unlessRefused, fedWith}
+
+-- the number of words fed, one more, and where a cell stands among the values, in bytes. Said here, away from all that is known of an engine,
+-- since that would be searched
+pub one-more : (n : ℕ) → n < mostFed → Fits w32 (n + 1)
+one-more n h = omega arith
+
+pub at-cell : (c : ℕ) → c < cells → Fits w64 (c * 4)
+at-cell c h = omega arith
 
 stays : (r : ℕ) (e next : Engine) → r ≢ 0 → e ≡ unlessRefused r e next
 stays zero e next n = absurd (n refl)

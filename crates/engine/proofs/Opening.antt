@@ -6,23 +6,23 @@ use mathlib.Core.Bool.{Bool, true, false}
 use mathlib.Core.List.{List}
 use Prim.Native.Nat.{ℕ, zero, suc}
 use native.Mathlib.Omega.{arith}
+use lib.Dec.{T}
 use lib.ListN.{length, take}
 use Rattle.laws.proofs.Tests.{holds-of}
 use Rattle.meaning.specs.Registers.{cells}
-use Rattle.meaning.specs.Grants.{mostGrants, grantsFine}
+use Rattle.meaning.specs.Grants.{mostGrants, grantsOf, grantsFine}
 use Rattle.meaning.specs.State.{stateWords, wellFormed}
 use Rattle.meaning.specs.Answers.{success}
 use Rattle.meaning.proofs.States.{formed-iff}
-use Rattle.keeping.proofs.Keeping.{KeptFrom}
+use Rattle.keeping.specs.Keeping.{beginnings, begunBy}
+use Rattle.keeping.proofs.Keeping.{KeptFrom, begun-by}
+use Rattle.pair.specs.Marks.{cleared}
 use Rattle.engine.specs.declared.Engine.{Engine}
 use Rattle.engine.specs.Bits.{packed}
 use Rattle.engine.specs.Kept.{zeros, byteBounds, blank, openingReason, unlessBlank, openedWith}
 
-pub whole : (st : List ℕ) → wellFormed st ≡ true → length st ≡ stateWords
-whole st e = formed-iff st .0 (holds-of e) .size
-
 -- no reason at opening: both tests are true
-pub both-true : (a b : Bool) → openingReason a b ≡ 0 → (a ≡ true) × (b ≡ true)
+both-true : (a b : Bool) → openingReason a b ≡ 0 → (a ≡ true) × (b ≡ true)
 both-true true true z = (refl, refl)
 both-true true false z = absurd (omega arith)
 both-true false b z = absurd (omega arith)
@@ -41,19 +41,27 @@ module _ (st grants : List ℕ) {formed fine : Bool} (f : formed ≡ wellFormed 
   refused n e = rw (sym as-told) (e ∙ refused-by r _ n)
 
   module _ (z : r ≡ 0) where
-    pub is-formed : wellFormed st ≡ true
-    is-formed = both-true (wellFormed st) (grantsFine grants) (sym as-told ∙ z) .0
+    both : (wellFormed st ≡ true) × (grantsFine grants ≡ true)
+    both = both-true (wellFormed st) (grantsFine grants) (sym as-told ∙ z)
+
+    -- the state is whole
+    pub is-whole : length st ≡ stateWords
+    is-whole = formed-iff st .0 (holds-of (both .0)) .size
+
+    -- and the grants may be placed, where their bounds were begun
+    pub may-place : {bounds : List ℕ} → bounds ≡ begunBy grants → T (grantsFine grants) × (bounds ≡ beginnings (grantsOf grants))
+    may-place e = (holds-of (both .1), e ∙ begun-by grants (both .1))
 
     -- neither: the state and the grants are kept
-    pub opened : {starts lasts numbers bounds values marks bytes : List ℕ} → KeptFrom grants (zeros mostGrants) (zeros mostGrants) (zeros mostGrants) starts lasts numbers bounds
-        → values ≡ take cells st → marks ≡ packed st cells (zeros 4) → bytes ≡ byteBounds bounds
+    pub opened : {starts lasts numbers bounds values marked marks bytes : List ℕ} → KeptFrom grants (zeros mostGrants) (zeros mostGrants) (zeros mostGrants) starts lasts numbers bounds
+        → values ≡ take cells st → marked ≡ packed st cells (zeros 4) → marks ≡ packed (cleared st) cells (zeros 4) → bytes ≡ byteBounds bounds
         → _≡_ {A = Engine} (record {
           reason = success;
           place = 0;
           left = 0;
           under = 0;
           marks = marks;
-          marked = marks;
+          marked = marked;
           values = values;
           before = values;
           starts = starts;
@@ -62,4 +70,4 @@ module _ (st grants : List ℕ) {formed fine : Bool} (f : formed ≡ wellFormed 
           bounds = bytes;
         }) (openedWith st grants)
     unfolding openedWith
-    opened k v m b = rw (sym as-told, z, k .0, k .1 .0, k .1 .1 .0, v, m, b, k .1 .1 .1)
+    opened k v o m b = rw (sym as-told, z, k .0, k .1 .0, k .1 .1 .0, v, o, m, b, k .1 .1 .1)

@@ -6,17 +6,19 @@ use Prim.Native.Nat.{ℕ, zero, suc, _+_, _%_}
 use lib.Dec.{leb, ltb, eqb}
 use lib.ListN.{getD, take, set, replicate}
 use Rattle.meaning.specs.Registers.{cells}
-use Rattle.meaning.specs.Grants.{Terms, mostGrants, grantsFine}
+use Rattle.meaning.specs.Grants.{Terms, mostGrants, grantsOf, grantsFine}
 use Rattle.meaning.specs.State.{wellFormed}
-use Rattle.meaning.specs.Answers.{badState, badGrants, engineFull, success, answer}
-use Rattle.meaning.specs.Reader.{ended}
+use Rattle.meaning.specs.Answers.{badState, badGrants, badPair, engineFull, success, answer}
+use Rattle.meaning.specs.Reader.{unless, ended}
 use Rattle.meaning.specs.Engine.{mostFed}
-use Rattle.keeping.specs.Keeping.{Kept, keptAfter}
+use Rattle.keeping.specs.Keeping.{Kept, keptOf}
+use Rattle.pair.specs.Marks.{cleared, restored}
+use Rattle.pair.specs.Judged.{keptIn}
 use Rattle.asking.specs.declared.Asked.{Asked}
-use Rattle.asking.specs.Asked.{kindFrom, askedIn}
+use Rattle.asking.specs.Asked.{kindFrom, partIn, askedIn}
 use Rattle.feeding.specs.Steps.{Standing}
 use Rattle.engine.specs.declared.Engine.{Engine}
-use Rattle.engine.specs.Bits.{marksOf, withMark, packed}
+use Rattle.engine.specs.Bits.{bitOf, marksOf, withMark, packed}
 
 -- ---- opening
 
@@ -30,15 +32,16 @@ byteBounds b =
     getD b 0 0 % 256 ∷ getD b 1 0 % 256 ∷ getD b 2 0 % 256 ∷ getD b 3 0 % 256
     ∷ getD b 4 0 % 256 ∷ getD b 5 0 % 256 ∷ getD b 6 0 % 256 ∷ getD b 7 0 % 256 ∷ []
 
--- before the first word: the answer, the values and the bits of the marks, and kept grants, their bounds as bytes
-abbrev pub before : ℕ → List ℕ → List ℕ → Kept → Engine
-before r values bits kept =
+-- before the first word: the answer, the values, the bits of the marks, those without the marks of the pair, and kept grants, their bounds as
+-- bytes
+abbrev pub before : ℕ → List ℕ → List ℕ → List ℕ → Kept → Engine
+before r values bits outside kept =
     record {
       reason = r;
       place = 0;
       left = 0;
       under = 0;
-      marks = bits;
+      marks = outside;
       marked = bits;
       values = values;
       before = values;
@@ -50,7 +53,7 @@ before r values bits kept =
 
 -- nothing is kept of a state or of grants
 abbrev pub blank : ℕ → Engine
-blank r = before r (zeros cells) (zeros 4) (record { starts = zeros mostGrants; lasts = zeros mostGrants; numbers = zeros mostGrants; bounds = zeros 8 })
+blank r = before r (zeros cells) (zeros 4) (zeros 4) (record { starts = zeros mostGrants; lasts = zeros mostGrants; numbers = zeros mostGrants; bounds = zeros 8 })
 
 -- 1 where the state is not well-formed, then 2 where the grant list breaks its rules
 abbrev pub openingReason : Bool → Bool → ℕ
@@ -65,7 +68,8 @@ unlessBlank (suc r) e = blank (suc r)
 unfoldable pub openedWith : List ℕ → List ℕ → Engine
 openedWith st grants =
     unlessBlank (openingReason (wellFormed st) (grantsFine grants))
-    (before success (take cells st) (packed st cells (zeros 4)) (keptAfter grants (zeros mostGrants) (zeros mostGrants) (zeros mostGrants)))
+    (before success (take cells st) (packed st cells (zeros 4)) (packed (cleared st) cells (zeros 4))
+    (keptOf (grantsOf grants) (zeros mostGrants) (zeros mostGrants) (zeros mostGrants)))
 
 -- ---- a word
 
@@ -127,12 +131,25 @@ fedWith g e w =
 abbrev pub closingReason : ℕ → ℕ → ℕ
 closingReason r k = cond (eqb r success) (ended k .reason) r
 
+-- and 14 where that is none and the pair is not kept
+abbrev pub reasonBehind : ℕ → Bool → ℕ
+reasonBehind r kept = cond (eqb r success) (unless kept badPair success) r
+
 -- ---- what stands
 
 -- the state at opening
 abbrev pub opening : Engine → List ℕ
 opening e = e .before ++ marksOf (e .marked)
 
--- the answer, the position, and the state with what the words write
+-- the answer, the position, and the state with what the words write, without the marks of the pair that they do not
 abbrev pub standing : Engine → Standing
 standing e = record { answer = answer (e .reason) (e .place); kind = kindFrom (e .under); left = e .left; pending = e .values ++ marksOf (e .marks) }
+
+-- the pair, judged of what stands and of the marks at opening
+abbrev pub pairJudged : Engine → Bool
+pairJudged e =
+    keptIn (e .starts) (e .lasts) (e .numbers) (partIn (e .bounds) 1) (bitOf (e .marked) 1) (bitOf (e .marked) 2) (e .values ++ marksOf (e .marks))
+
+-- the state with what the words write, the marks of the pair given back
+abbrev pub behind : Engine → List ℕ
+behind e = restored (bitOf (e .marked) 1) (bitOf (e .marked) 2) (e .values ++ marksOf (e .marks))

@@ -3,34 +3,40 @@
 ghost use mathlib.Core.Path.{_≡_};
 ghost use mathlib.Core.Bool.{cond};
 ghost use mathlib.Core.List.{_++_};
-ghost use Prim.Native.Nat.{_<_, _%_};
+ghost use Prim.Native.Nat.{_≤_, _<_, _%_};
 ghost use lib.ListN.{length, take};
 ghost use Rattle.meaning.specs.Words.{wordsOf};
 ghost use Rattle.meaning.specs.Registers.{cells};
-ghost use Rattle.meaning.specs.Grants.{Terms};
+ghost use Rattle.meaning.specs.Grants.{Terms, mostGrants};
 ghost use Rattle.meaning.specs.State.{stateWords, isMark};
+ghost use Rattle.pair.specs.Marks.{outside, cleared, restored};
+ghost use Rattle.pair.specs.Judged.{keptIn};
 ghost use Rattle.grants.specs.Kept.{Keeps};
 ghost use Rattle.asking.specs.Asked.{capped};
 ghost use Rattle.feeding.specs.Steps.{closes, leaves};
 ghost use Rattle.engine.specs.Bits.{bitOf, marksOf, withMark, packed};
-ghost use Rattle.engine.specs.Kept.{openingReason, byteBounds, blank, openedWith, fedWith, closingReason, opening, standing};
+ghost use Rattle.engine.specs.Kept.{openingReason, byteBounds, blank, openedWith, fedWith, closingReason, reasonBehind, opening, standing, pairJudged, behind};
 use asking::ByteBounds;
 use grants::BOUNDS;
 use grants::Bounds;
 use grants::Numbers;
+use grants::Part;
 use grants::Spans;
 use meaning::Answer;
 use meaning::BAD_GRANTS;
+use meaning::BAD_PAIR;
 use meaning::BAD_STATE;
 use meaning::CELLS;
 use meaning::Cell;
 use meaning::ENDS_INSIDE;
 use meaning::ENGINE_FULL;
+use meaning::LOCATION_CELL;
 use meaning::MOST_FED;
 use meaning::MOST_GRANTS;
 use meaning::STATE_WORDS;
 use meaning::SUCCESS;
 use meaning::State;
+use meaning::TARGET_CELL;
 
 // The values of the cells, and their marks, a bit each.
 pub type Values = [u32; CELLS];
@@ -85,17 +91,33 @@ fn load_mark(marks: &mut Marks, cell: usize, mark: u32)
     set_mark(marks, cell);
 }
 
-// The values of a state, and its marks as bits.
-fn load(state: &[u8], values: &mut Values, marks: &mut Marks)
+// The mark of a cell, and 0 if it is one of the pair.
+fn outside_pair(cell: Cell, mark: u32) -> u32
+    ensures mark { λ r. ⌜ r ≡ outside (cell .0) mark ⌝ }
+{
+    if cell.0 == TARGET_CELL {
+        return 0;
+    }
+    if cell.0 == LOCATION_CELL {
+        return 0;
+    }
+    mark
+}
+
+// The values of a state, its marks as bits, and the same without those of the pair, which come back as they are written.
+fn load(state: &[u8], values: &mut Values, marked: &mut Marks, marks: &mut Marks)
     requires whole { ⌜ length (wordsOf (now state)) ≡ stateWords ⌝ }
     requires array { ⌜ length (now values) ≡ cells ⌝ }
     ensures values { λ _. ⌜ now (values .exit) ≡ take cells (wordsOf (now (state .entry))) ⌝ }
-    ensures marks { λ _. ⌜ now (marks .exit) ≡ packed (wordsOf (now (state .entry))) cells (now (marks .entry)) ⌝ }
+    ensures marked { λ _. ⌜ now (marked .exit) ≡ packed (wordsOf (now (state .entry))) cells (now (marked .entry)) ⌝ }
+    ensures marks { λ _. ⌜ now (marks .exit) ≡ packed (cleared (wordsOf (now (state .entry)))) cells (now (marks .entry)) ⌝ }
 {
     let mut c = 0;
     while c < CELLS {
         values[c] = states::value(state, Cell(c));
-        load_mark(marks, c, states::mark(state, Cell(c)));
+        let mark = states::mark(state, Cell(c));
+        load_mark(marked, c, mark);
+        load_mark(marks, c, outside_pair(Cell(c), mark));
         c += 1;
     }
 }
@@ -159,14 +181,16 @@ pub fn open(state: &[u8], grants: &[u8]) -> Engine
     let mut numbers = [0u8; MOST_GRANTS];
     let mut bounds = [0usize; BOUNDS];
     let formed = states::well_formed(state);
-    let fine = keeping::keep(grants, &mut starts, &mut lasts, &mut numbers, &mut bounds);
+    let fine = keeping::begin(grants, &mut bounds);
     let reason = opening_reason(formed, fine);
     if reason != 0 {
         return refused(reason);
     }
+    keeping::place(grants, &mut starts, &mut lasts, &mut numbers, &mut bounds);
     let mut values = [0u32; CELLS];
+    let mut marked = [0u32; MARK_WORDS];
     let mut marks = [0u32; MARK_WORDS];
-    load(state, &mut values, &mut marks);
+    load(state, &mut values, &mut marked, &mut marks);
     let bytes = byte_bounds(&bounds);
     Engine {
         reason: SUCCESS,
@@ -174,7 +198,7 @@ pub fn open(state: &[u8], grants: &[u8]) -> Engine
         left: 0,
         under: 0,
         marks,
-        marked: marks,
+        marked,
         values,
         before: values,
         starts,
@@ -233,6 +257,7 @@ fn mark_in(marks: &Marks, cell: usize) -> u32
 fn lay<'a>(values: &'a Values, marks: &'a Marks, state: &mut State)
     requires array { ⌜ length (now state) ≡ stateWords ⌝ }
     ensures laid { λ _. ⌜ now (state .exit) ≡ now (values .entry) ++ marksOf (now (marks .entry)) ⌝ }
+    ensures size { λ _. ⌜ length (now (state .exit)) ≡ stateWords ⌝ }
 {
     // A slice tells how long it is, which a reference to an array does not.
     let all = &values[..];
@@ -257,14 +282,57 @@ fn closing_reason(reason: u32, left: u32) -> u32
     SUCCESS
 }
 
+// What closing answers, by the reason that the words ended with, and the state with what they write: laid out, its pair judged. What a refusal
+// leaves in the state is of no use.
+fn reason_behind<'a>(
+    ended: u32,
+    values: &'a Values,
+    marks: &'a Marks,
+    marked: &'a Marks,
+    starts: &'a Spans,
+    lasts: &'a Spans,
+    numbers: &'a Numbers,
+    part: Part,
+    state: &mut State,
+) -> u32
+    requires array { ⌜ length (now state) ≡ stateWords ⌝ }
+    requires inside { ⌜ part .to ≤ mostGrants ⌝ }
+    ensures reason { λ r. ⌜ r ≡ reasonBehind ended (keptIn (now (starts .entry)) (now (lasts .entry)) (now (numbers .entry)) part (bitOf (now (marked .entry)) 1) (bitOf (now (marked .entry)) 2) (now (values .entry) ++ marksOf (now (marks .entry)))) ⌝ }
+    ensures state { λ r. ⌜ (r ≡ 0 → now (state .exit) ≡ restored (bitOf (now (marked .entry)) 1) (bitOf (now (marked .entry)) 2) (now (values .entry) ++ marksOf (now (marks .entry)))) ⌝ }
+    ensures size { λ _. ⌜ length (now (state .exit)) ≡ stateWords ⌝ }
+{
+    if ended != 0 {
+        return ended;
+    }
+    lay(values, marks, state);
+    let target = mark_in(marked, TARGET_CELL);
+    let location = mark_in(marked, LOCATION_CELL);
+    if !pair::kept(target, location, state, starts, lasts, numbers, part, false) {
+        return BAD_PAIR;
+    }
+    SUCCESS
+}
+
 // Closes an engine: the reader's answer on the words fed, or the refusal that stands; and the state, changed only if all is accepted.
 pub fn close(engine: Engine) -> Closed
-    ensures answer { λ r. ⌜ r .answer ≡ closes (standing engine) ⌝ }
-    ensures state { λ r. ⌜ r .state ≡ leaves (standing engine) (opening engine) ⌝ }
+    ensures answer { λ r. ⌜ r .answer ≡ closes (pairJudged engine) (standing engine) ⌝ }
+    ensures state { λ r. ⌜ r .state ≡ leaves (pairJudged engine) (standing engine) (behind engine) (opening engine) ⌝ }
 {
     let mut state = [0u32; STATE_WORDS];
     let place = engine.place as usize;
-    let reason = closing_reason(engine.reason, engine.left);
+    let ended = closing_reason(engine.reason, engine.left);
+    let part = asking::part_of(&engine.bounds, 1);
+    let reason = reason_behind(
+        ended,
+        &engine.values,
+        &engine.marks,
+        &engine.marked,
+        &engine.starts,
+        &engine.lasts,
+        &engine.numbers,
+        part,
+        &mut state,
+    );
     if reason != 0 {
         lay(&engine.before, &engine.marked, &mut state);
         return Closed {
@@ -272,7 +340,6 @@ pub fn close(engine: Engine) -> Closed
             state,
         };
     }
-    lay(&engine.values, &engine.marks, &mut state);
     Closed {
         answer: Answer { reason, place },
         state,

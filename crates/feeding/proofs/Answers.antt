@@ -1,22 +1,24 @@
 -- The answers to the last of the words fed and to closing, by what became of the words: all are taken, one is refused, or they are too many.
 -- Assumes nothing.
-use mathlib.Core.Path.{_≡_, refl, ap, _∙_}
+use mathlib.Core.Path.{_≡_, refl, sym, ap, _∙_, subst}
 use mathlib.Core.Logic.{_↔_, _≢_, inl, inr}
+use mathlib.Core.Bool.{Bool, true, false}
 use mathlib.Core.List.{List, [], _∷_, _++_}
 use Prim.Native.Nat.{ℕ, zero, suc, _-_, _≤_, _<_}
 use native.Mathlib.Omega.{arith}
-use native.Mathlib.Decide.{decLt}
+use native.Mathlib.Decide.{decLt, ℕ-discrete}
 use lib.Dec.{T}
 use lib.ListN.{length, take, length-append}
 use lib.Seq.{take-nil, take-all, take-append-le}
-use borrow.Author.Tests.{le-leb, lt-leb}
+use borrow.Author.Tests.{le-leb, lt-leb, ne-eqb}
 use Rattle.laws.proofs.Tests.{within-iff, true-of, false-of}
 use Rattle.meaning.specs.declared.Kind.the-variants.{Setting}
 use Rattle.meaning.specs.declared.Answer.{Answer}
 use Rattle.meaning.specs.Grants.{Terms}
-use Rattle.meaning.specs.Positions.{positionAt}
-use Rattle.meaning.specs.Answers.{badOffset, notGranted, engineFull, success, answer}
-use Rattle.meaning.specs.Reader.{judge, ended, batchAnswer}
+use Rattle.meaning.specs.Pair.{pairKept}
+use Rattle.meaning.specs.Positions.{positionAt, writesOf}
+use Rattle.meaning.specs.Answers.{badOffset, notGranted, badPair, engineFull, success, answer}
+use Rattle.meaning.specs.Reader.{unless, judge, ended, batchAnswer, paired, pairedAnswer}
 use Rattle.meaning.specs.Engine.{mostFed, wordRefused, counted, fedAnswer, closedAnswer}
 use Rattle.feeding.proofs.Runs.{Passes, Refused, judge-refused, came, run-passed, not-refused, stuck, good-end, passes-on, stops-on}
 
@@ -154,32 +156,56 @@ module _ (g : Terms) (ws : List ℕ) (t : Taken g ws) (w : ℕ) where
         (rw (take-all mostFed (ws ++ (w ∷ [])) (omega (arith, next-length ws w))) (stops-on g Setting 0 ws w r (t .passes) e))
         (judge-refused g _ _ w r (length ws) (good-end g Setting 0 ws tt (t .passes)) e))
 
--- ---- closing
+-- ---- the pair
 
-module _ (g : Terms) (ws : List ℕ) where
+-- neither 0 nor 14 is a word's refusal
+pair-answered : (b : Bool) (p : ℕ) → ¬ Refused (answer (unless b badPair success) p)
+unfolding unless
+pair-answered true p f = omega arith
+pair-answered false p f = omega arith
+
+-- a word's refusal is given with the pair exactly if it is given without: A3 "14 is last"
+first-by : (b : Bool) (a c : Answer) → Refused c → (paired b a ≡ c) ↔ (a ≡ c)
+first-by b a c f = (
+  λ e. elim (ℕ-discrete (a .reason) 0) [
+    | yes z ↦ let d : answer (unless b badPair success) (a .place) ≡ c = rw z at e in absurd (pair-answered b (a .place) (subst Refused (sym d) f))
+    | no n ↦ rw (ne-eqb (a .reason) 0 n) at e
+  ],
+  λ e. rw (e, ne-eqb (c .reason) 0 (λ z. omega arith)),
+)
+
+-- ---- closing, by the state at opening
+
+module _ (g : Terms) (st ws : List ℕ) where
+  -- and so of words, from a state
+  pub words-first : {a : Answer} → Refused a → (pairedAnswer g st ws ≡ a) ↔ (batchAnswer g ws ≡ a)
+  unfolding pairedAnswer
+  words-first {a} f = first-by (pairKept g st (writesOf ws)) (batchAnswer g ws) a f
+
   -- the answer by the number of words
-  pub closed-few : length ws ≤ mostFed → closedAnswer g ws ≡ batchAnswer g ws
+  pub closed-few : length ws ≤ mostFed → closedAnswer g st ws ≡ pairedAnswer g st ws
   unfolding closedAnswer
   closed-few l = rw (le-leb (length ws) mostFed l)
 
-  closed-many : mostFed < length ws → closedAnswer g ws ≡ fedAnswer g ws
+  closed-many : mostFed < length ws → closedAnswer g st ws ≡ fedAnswer g ws
   unfolding closedAnswer
   closed-many l = rw (lt-leb (length ws) mostFed l)
 
-  -- 0, or 10 inside a packet, where all are taken
-  pub closed-taken : Taken g ws → closedAnswer g ws ≡ answer (ended (positionAt ws (length ws) .left) .reason) (length ws)
-  unfolding batchAnswer positionAt
-  closed-taken t = closed-few (t .few) ∙ run-passed g Setting 0 ws (t .passes)
+  -- where all are taken: 10 inside a packet, and else 0 or 14, by the pair
+  pub closed-taken : Taken g ws
+      → closedAnswer g st ws ≡ paired (pairKept g st (writesOf ws)) (answer (ended (positionAt ws (length ws) .left) .reason) (length ws))
+  unfolding batchAnswer pairedAnswer positionAt
+  closed-taken t = closed-few (t .few) ∙ ap (paired (pairKept g st (writesOf ws))) (run-passed g Setting 0 ws (t .passes))
 
   -- M6 "They and closing are given the same answer."
-  pub closed-by : {a : Answer} → Fed g ws a → a .reason ≢ 0 → closedAnswer g ws ≡ a
+  pub closed-by : {a : Answer} → Fed g ws a → a .reason ≢ 0 → closedAnswer g st ws ≡ a
   closed-by (all-taken t) n = absurd (n refl)
   closed-by (stopped e f) n =
       elim (decLt mostFed (length ws)) [
         | yes l ↦ closed-many l ∙ fed-is g ws (stopped e f)
-        | no l ↦ let few : length ws ≤ mostFed = omega arith in closed-few few ∙ (rw (take-all mostFed ws few) at e)
+        | no l ↦ let few : length ws ≤ mostFed = omega arith in closed-few few ∙ words-first f .1 (rw (take-all mostFed ws few) at e)
       ]
   closed-by (past-full l p) n = closed-many l ∙ fed-is g ws (past-full l p)
 
-  pub closed-refused : fedAnswer g ws .reason ≢ 0 → closedAnswer g ws ≡ fedAnswer g ws
+  pub closed-refused : fedAnswer g ws .reason ≢ 0 → closedAnswer g st ws ≡ fedAnswer g ws
   closed-refused n = closed-by (fed-told g ws) n

@@ -16,15 +16,16 @@ use Rattle.meaning.specs.declared.Kind.the-variants.{Setting}
 use Rattle.meaning.specs.declared.Answer.{Answer}
 use Rattle.meaning.specs.Grants.{Terms, termsOf, grantsFine}
 use Rattle.meaning.specs.State.{wellFormed}
-use Rattle.meaning.specs.Positions.{nextKind, nextLeft, positionFrom, positionAt}
+use Rattle.meaning.specs.Pair.{pairKept}
+use Rattle.meaning.specs.Positions.{nextKind, nextLeft, positionFrom, positionAt, writesOf}
 use Rattle.meaning.specs.Answers.{answer}
-use Rattle.meaning.specs.Reader.{ended, batchAnswer}
+use Rattle.meaning.specs.Reader.{unless, ended, batchAnswer, paired, pairedAnswer}
 use Rattle.meaning.specs.Reasons.{GivenAt, NoneBefore, ReaderGives, EngineGives}
 use Rattle.meaning.specs.Engine.{mostFed, fedAnswer, Call, opening, feeding, closing, fedBy, callAnswer, engineAnswer}
 use Rattle.meaning.proofs.Exactly.{given-range, read-told, read-batch, read-answer}
 use Rattle.meaning.proofs.Bytes.{exactly}
 use Rattle.feeding.proofs.Runs.{Passes, Refused, came, not-refused}
-use Rattle.feeding.proofs.Answers.{Taken, Fed, all-taken, stopped, past-full, fed-is, fed-told, taken-of, fed-none, closed-few, closed-taken, closed-by, closed-refused}
+use Rattle.feeding.proofs.Answers.{Taken, Fed, all-taken, stopped, past-full, fed-is, fed-told, taken-of, fed-none, words-first, closed-few, closed-taken, closed-by, closed-refused}
 use Rattle.feeding.proofs.Promises.{call-is}
 
 -- ---- the first n words
@@ -90,26 +91,34 @@ module _ (st grants : List ℕ) (s : T (wellFormed st)) (l : T (grantsFine grant
   told-as ws (ReaderGives.bad-grants _ n) = absurd (n l)
   told-as ws (ReaderGives.at-word _ _ h b v) = inl (record { inside = h; before = b; given = v })
   told-as ws (ReaderGives.ends-inside _ _ b q) = inr (b, λ f. omega arith)
-  told-as ws (ReaderGives.accepted _ _ b q) = inr (b, λ f. omega arith)
+  told-as ws (ReaderGives.bad-pair _ _ b q _) = inr (b, λ f. omega arith)
+  told-as ws (ReaderGives.accepted _ _ b q _) = inr (b, λ f. omega arith)
 
-  batch-told : (ws : List ℕ) → Stop g ws (batchAnswer g ws .reason) (batchAnswer g ws .place) ⊎ (NoneBefore g ws (length ws) × (¬ Refused (batchAnswer g ws)))
-  batch-told ws = told-as ws (rw (read-batch ws grants st s l) at (read-told ws grants st))
+  paired-told : (ws : List ℕ)
+      → Stop g ws (pairedAnswer g st ws .reason) (pairedAnswer g st ws .place) ⊎ (NoneBefore g ws (length ws) × (¬ Refused (pairedAnswer g st ws)))
+  paired-told ws = told-as ws (rw (read-batch ws grants st s l) at (read-told ws grants st))
 
   -- a word is refused first, at its place, exactly if the reader gives one of 3 to 9 there
   stop-iff : (ws : List ℕ) (r p : ℕ) → Stop g ws r p ↔ ((batchAnswer g ws ≡ answer r p) × Refused (answer r p))
   stop-iff ws r p = (
-    λ x. (
-      sym (read-batch ws grants st s l) ∙ read-answer ws grants st (ReaderGives.at-word s l (x .inside) (x .before) (x .given)),
-      given-range g (x .given),
-    ),
-    λ y. elim (batch-told ws) [ inl x ↦ rw (y .0) at x | inr b ↦ absurd (b .1 (rw (y .0) (y .1))) ],
+    λ x.
+        let f = given-range g (x .given) in (
+          words-first g st ws f .0 (sym (read-batch ws grants st s l) ∙ read-answer ws grants st (ReaderGives.at-word s l (x .inside) (x .before) (x .given))),
+          f,
+        ),
+    λ y.
+        let e = words-first g st ws (y .1) .1 (y .0) in
+        elim (paired-told ws) [ inl x ↦ rw e at x | inr b ↦ absurd (b .1 (rw e (y .1))) ],
   )
 
   -- words pass exactly if none is refused
   passes-iff : (ws : List ℕ) → Passes g Setting 0 ws ↔ NoneBefore g ws (length ws)
   unfolding batchAnswer
   passes-iff ws = (
-    λ p. elim (batch-told ws) [ inl x ↦ absurd (not-refused g Setting 0 ws p (given-range g (x .given))) | inr b ↦ b .0 ],
+    λ p. elim (paired-told ws) [
+      | inl x ↦ let y = stop-iff ws _ _ .0 x in absurd (not-refused g Setting 0 ws p (rw (y .0) (y .1)))
+      | inr b ↦ b .0
+    ],
     λ b. elim (came g Setting 0 ws tt) [
       | inl p ↦ p
       | inr f ↦ let x = stop-iff ws _ _ .1 (refl, f) in absurd (b _ (x .inside) _ (x .given))
@@ -133,13 +142,16 @@ module _ (st grants : List ℕ) (s : T (wellFormed st)) (l : T (grantsFine grant
       EngineGives.at-word s l (x .1 .inside) (x .0) (x .1 .before) (x .1 .given)
   refusal-told c (past-full h p) n = EngineGives.full s l h (front-iff mostFed (fedBy c) (omega arith) .0 p)
 
-  -- closing where all words are taken, by how many are wanted
-  ended-told : (ws : List ℕ) (k : ℕ) → Taken g ws → positionAt ws (length ws) .left ≡ k
-      → EngineGives st grants (closing ws) (ended k .reason) (length ws)
-  ended-told ws zero t e = EngineGives.accepted s l (t .few) (passes-iff ws .0 (t .passes)) e
-  ended-told ws (suc k) t e = EngineGives.ends-inside s l (t .few) (passes-iff ws .0 (t .passes)) (omega arith)
+  -- closing where all words are taken, by how many are wanted and by the pair
+  ended-told : (ws : List ℕ) (k : ℕ) (b : Bool) → Taken g ws → positionAt ws (length ws) .left ≡ k → pairKept g st (writesOf ws) ≡ b
+      → let a = paired b (answer (ended k .reason) (length ws)) in
+      EngineGives st grants (closing ws) (a .reason) (a .place)
+  unfolding unless
+  ended-told ws zero true t e p = EngineGives.accepted s l (t .few) (passes-iff ws .0 (t .passes)) e (holds-of p)
+  ended-told ws zero false t e p = EngineGives.bad-pair s l (t .few) (passes-iff ws .0 (t .passes)) e (fails-of p)
+  ended-told ws (suc k) b t e p = EngineGives.ends-inside s l (t .few) (passes-iff ws .0 (t .passes)) (omega arith)
 
-  call-told : (c : Call) → EngineGives st grants c (callAnswer g c .reason) (callAnswer g c .place)
+  call-told : (c : Call) → EngineGives st grants c (callAnswer g st c .reason) (callAnswer g st c .place)
   unfolding callAnswer
   call-told opening = EngineGives.opened s l
   call-told (feeding ws) =
@@ -149,8 +161,8 @@ module _ (st grants : List ℕ) (s : T (wellFormed st)) (l : T (grantsFine grant
       ]
   call-told (closing ws) =
       elim (ℕ-discrete (fedAnswer g ws .reason) 0) [
-        | yes z ↦ let t = taken-of g ws z in rw (closed-taken g ws t) (ended-told ws _ t refl)
-        | no n ↦ rw (closed-refused g ws n) (refusal-told (closing ws) (fed-told g ws) n)
+        | yes z ↦ let t = taken-of g ws z in rw (closed-taken g st ws t) (ended-told ws _ _ t refl refl)
+        | no n ↦ rw (closed-refused g st ws n) (refusal-told (closing ws) (fed-told g ws) n)
       ]
 
   -- ---- and back
@@ -160,12 +172,12 @@ module _ (st grants : List ℕ) (s : T (wellFormed st)) (l : T (grantsFine grant
   unfolding callAnswer
   refusal-answer opening f n = absurd (n (ap (λ (x : Answer). x .reason) (sym (fed-is g [] f) ∙ fed-none g)))
   refusal-answer (feeding ws) f n = call-is st grants s l (feeding ws) ∙ fed-is g ws f
-  refusal-answer (closing ws) f n = call-is st grants s l (closing ws) ∙ closed-by g ws f n
+  refusal-answer (closing ws) f n = call-is st grants s l (closing ws) ∙ closed-by g st ws f n
 
   -- closing, after no more words than are taken
   close-answer : (ws : List ℕ) {r p : ℕ} → length ws ≤ mostFed → ReaderGives ws grants st r p → engineAnswer st grants (closing ws) ≡ answer r p
   unfolding callAnswer
-  close-answer ws few x = call-is st grants s l (closing ws) ∙ closed-few g ws few ∙ sym (read-batch ws grants st s l) ∙ read-answer ws grants st x
+  close-answer ws few x = call-is st grants s l (closing ws) ∙ closed-few g st ws few ∙ sym (read-batch ws grants st s l) ∙ read-answer ws grants st x
 
 -- ---- any call
 
@@ -192,7 +204,8 @@ engine-answer st grants c (EngineGives.full s l h b) =
 engine-answer st grants c (EngineGives.taken {ws} s l few b) =
     call-is st grants s l (feeding ws) ∙ fed-is (termsOf grants) ws (all-taken (record { few = few; passes = passes-iff st grants s l ws .1 b }))
 engine-answer st grants c (EngineGives.ends-inside {ws} s l few b q) = close-answer st grants s l ws few (ReaderGives.ends-inside s l b q)
-engine-answer st grants c (EngineGives.accepted {ws} s l few b q) = close-answer st grants s l ws few (ReaderGives.accepted s l b q)
+engine-answer st grants c (EngineGives.bad-pair {ws} s l few b q n) = close-answer st grants s l ws few (ReaderGives.bad-pair s l b q n)
+engine-answer st grants c (EngineGives.accepted {ws} s l few b q t) = close-answer st grants s l ws few (ReaderGives.accepted s l b q t)
 
 -- A5 "A reason is given exactly if its row fits and nothing fits that goes before it in this order.": the table of reasons and the answer agree
 pub gives-exactly : (st grants : List ℕ) (c : Call) (r p : ℕ) → (engineAnswer st grants c ≡ answer r p) ↔ EngineGives st grants c r p

@@ -16,12 +16,12 @@ use Rattle.meaning.specs.Grants.{grantsFine, termsOf}
 use Rattle.meaning.specs.State.{wellFormed, empty, applyAll}
 use Rattle.meaning.specs.Positions.{writesOf}
 use Rattle.meaning.specs.Answers.{badState, badGrants, engineFull, success, answer, settle}
-use Rattle.meaning.specs.Reader.{batchAnswer, readAnswer, readLeaves}
+use Rattle.meaning.specs.Reader.{batchAnswer, pairedAnswer, readAnswer, readLeaves}
 use Rattle.meaning.specs.Engine.{mostFed, wordRefused, fedAnswer, closedAnswer, Call, opening, feeding, closing, callAnswer, engineAnswer, engineLeaves}
 use Rattle.meaning.proofs.Exactly.{read-batch}
 use Rattle.meaning.proofs.Bytes.{settle-refused}
-use Rattle.feeding.proofs.Runs.{not-refused}
-use Rattle.feeding.proofs.Answers.{refused-iff, Taken, Fed, all-taken, stopped, past-full, fed-is, fed-told, taken-of, fed-stays, fed-none, next-length, next-full, closed-few, closed-refused}
+use Rattle.feeding.proofs.Runs.{Refused, not-refused}
+use Rattle.feeding.proofs.Answers.{refused-iff, Taken, Fed, all-taken, stopped, past-full, fed-is, fed-told, taken-of, fed-stays, fed-none, next-length, next-full, words-first, closed-few, closed-refused}
 
 -- ---- opening
 
@@ -64,10 +64,11 @@ pub none-fed : (st grants : List ℕ) → engineAnswer st grants (feeding []) �
 unfolding engineAnswer callAnswer
 none-fed st grants = rw (fed-none (termsOf grants))
 
--- ---- where opening answers 0: what the words alone give
+-- ---- where opening answers 0: what the words give
 
 -- any call, where both tests are true
-pub call-is : (st grants : List ℕ) → T (wellFormed st) → T (grantsFine grants) → (c : Call) → engineAnswer st grants c ≡ callAnswer (termsOf grants) c
+pub call-is : (st grants : List ℕ) → T (wellFormed st) → T (grantsFine grants) → (c : Call)
+    → engineAnswer st grants c ≡ callAnswer (termsOf grants) st c
 unfolding engineAnswer
 call-is st grants s l c = rw (true-of (wellFormed st) s, true-of (grantsFine grants) l)
 
@@ -87,17 +88,17 @@ module _ (st grants : List ℕ) (z : engineAnswer st grants opening .reason ≡ 
   feed-is = call-is st grants (fine .0) (fine .1) (feeding ws)
 
   -- closing after them
-  pub close-is : engineAnswer st grants (closing ws) ≡ closedAnswer (termsOf grants) ws
+  pub close-is : engineAnswer st grants (closing ws) ≡ closedAnswer (termsOf grants) st ws
   unfolding callAnswer
   close-is = call-is st grants (fine .0) (fine .1) (closing ws)
 
   -- the state that is handed back
-  pub leaves-is : engineLeaves st grants ws ≡ settle (closedAnswer (termsOf grants) ws) (applyAll st (writesOf ws)) st
+  pub leaves-is : engineLeaves st grants ws ≡ settle (closedAnswer (termsOf grants) st ws) (applyAll st (writesOf ws)) st
   unfolding engineLeaves
   leaves-is = rw (true-of (wellFormed st) (fine .0), true-of (grantsFine grants) (fine .1))
 
   -- the reader's answer
-  read-is : readAnswer ws grants st ≡ batchAnswer (termsOf grants) ws
+  read-is : readAnswer ws grants st ≡ pairedAnswer (termsOf grants) st ws
   read-is = read-batch ws grants st (fine .0) (fine .1)
 
 -- ---- closing
@@ -108,13 +109,13 @@ pub closes-as-the-reader : (st grants ws : List ℕ) → engineAnswer st grants 
     → (engineAnswer st grants (closing ws) ≡ readAnswer ws grants st) × (engineLeaves st grants ws ≡ readLeaves ws grants st)
 unfolding readLeaves
 closes-as-the-reader st grants ws z l =
-    let same : closedAnswer (termsOf grants) ws ≡ readAnswer ws grants st = closed-few (termsOf grants) ws l ∙ sym (read-is st grants z ws) in
+    let same : closedAnswer (termsOf grants) st ws ≡ readAnswer ws grants st = closed-few (termsOf grants) st ws l ∙ sym (read-is st grants z ws) in
     (close-is st grants z ws ∙ same, leaves-is st grants z ws ∙ rw same)
 
 -- ---- the next word
 
 -- M3 "A word is refused exactly if the reader gives one of 3 to 9 on the words fed up to and with it, and is then given that answer."
--- M4 "A word that is taken is answered 0 at the number of words fed."
+-- M4 "A word that is taken is answered 0 at the number of words fed.", also where the reader gives 10 or 14
 pub record NextWord (st grants ws : List ℕ) (w : ℕ) : Type 0 where
   pub exactly : (engineAnswer st grants (feeding (ws ++ (w ∷ []))) .reason ≢ 0) ↔ T (wordRefused (readAnswer (ws ++ (w ∷ [])) grants st))
   pub refusal : engineAnswer st grants (feeding (ws ++ (w ∷ []))) .reason ≢ 0
@@ -127,19 +128,23 @@ module _ (st grants ws : List ℕ) (w : ℕ) (z : engineAnswer st grants opening
   abbrev all : List ℕ
   all = ws ++ (w ∷ [])
 
+  -- the reader refuses a word of them exactly if the words alone say so, without the pair
+  read-iff : {a : Answer} → Refused a → (readAnswer all grants st ≡ a) ↔ (batchAnswer (termsOf grants) all ≡ a)
+  read-iff f = rw (read-is st grants z all) (words-first (termsOf grants) st all f)
+
   next-by : {a : Answer} → Fed (termsOf grants) all a → engineAnswer st grants (feeding all) ≡ a → NextWord st grants ws w
   unfolding batchAnswer
   next-by (all-taken t) e =
       let none : engineAnswer st grants (feeding all) .reason ≡ 0 = ap (λ (x : Answer). x .reason) e in
       let never : ¬ T (wordRefused (readAnswer all grants st)) =
-      λ f. not-refused (termsOf grants) Setting 0 all (t .passes) (rw (read-is st grants z all) at (refused-iff _ .0 f)) in
+      λ f. let y = refused-iff _ .0 f in not-refused (termsOf grants) Setting 0 all (t .passes) (rw (read-iff y .0 refl) y) in
       record {
         exactly = (λ n. absurd (n none), λ f. absurd (never f));
         refusal = λ n. absurd (n none);
         taken = λ _. e ∙ ap (answer success) (next-length ws w);
       }
   next-by (stopped d f) e =
-      let read : readAnswer all grants st ≡ _ = read-is st grants z all ∙ (rw (take-all mostFed all (omega (arith, next-length ws w))) at d) in
+      let read : readAnswer all grants st ≡ _ = read-iff f .1 (rw (take-all mostFed all (omega (arith, next-length ws w))) at d) in
       let some : engineAnswer st grants (feeding all) .reason ≢ 0 = λ y. omega (arith, ap (λ (x : Answer). x .reason) e) in
       record { exactly = (λ n. refused-iff _ .1 (rw read f), λ y. some); refusal = λ n. e ∙ sym read; taken = λ y. absurd (some y) }
   next-by (past-full m p) e = absurd (omega (arith, next-length ws w))
@@ -185,7 +190,7 @@ stays-refused st grants ws more z n =
     let here = feed-is st grants z ws in
     let m : fedAnswer g ws .reason ≢ 0 = rw here at n in
     let on = fed-stays g ws more m in
-    let closed : closedAnswer g (ws ++ more) ≡ fedAnswer g ws = closed-refused g (ws ++ more) (rw on m) ∙ on in
+    let closed : closedAnswer g st (ws ++ more) ≡ fedAnswer g ws = closed-refused g st (ws ++ more) (rw on m) ∙ on in
     record {
       feed = feed-is st grants z (ws ++ more) ∙ on ∙ sym here;
       close = close-is st grants z (ws ++ more) ∙ closed ∙ sym here;

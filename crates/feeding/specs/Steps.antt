@@ -1,6 +1,6 @@
 -- One word fed, as a step from what stands before it to what stands after it. proofs/Steps ties the steps to what the engine answers.
 -- Assumes nothing.
-use mathlib.Core.Bool.{cond}
+use mathlib.Core.Bool.{Bool, cond}
 use mathlib.Core.List.{List}
 use Prim.Native.Nat.{ℕ, zero, suc}
 use lib.Dec.{leb, eqb}
@@ -11,11 +11,11 @@ use Rattle.meaning.specs.Grants.{Terms}
 use Rattle.meaning.specs.State.{applyAll}
 use Rattle.meaning.specs.Positions.{nextKind, nextLeft, writeAt}
 use Rattle.meaning.specs.Answers.{engineFull, success, answer, settle}
-use Rattle.meaning.specs.Reader.{judge, ended}
+use Rattle.meaning.specs.Reader.{judge, ended, paired}
 use Rattle.meaning.specs.Engine.{mostFed}
 
--- what stands between words: the answer, the position in the packet, and the state with all that the words fed write. As long as no word
--- is refused, the answer is 0 at the number fed
+-- what stands between words: the answer, the position in the packet, and the state that was begun with, with all that the words fed write.
+-- As long as no word is refused, the answer is 0 at the number fed
 pub record Standing : Type 0 where
   pub answer : Answer
   pub kind : Kind
@@ -58,10 +58,10 @@ step g s w =
 
 -- ---- closing
 
--- the answer: 10 where a packet is open
-unfoldable pub closes : Standing → Answer
-closes s = cond (eqb (s .answer .reason) success) (answer (ended (s .left) .reason) (s .answer .place)) (s .answer)
+-- the answer, by whether the pair is kept: 10 where a packet is open, and 14 where none is and the pair is not kept
+unfoldable pub closes : Bool → Standing → Answer
+closes kept s = cond (eqb (s .answer .reason) success) (paired kept (answer (ended (s .left) .reason) (s .answer .place))) (s .answer)
 
--- and the state that is handed back, by that at opening
-unfoldable pub leaves : Standing → List ℕ → List ℕ
-leaves s st = settle (closes s) (s .pending) st
+-- and the state that is handed back: `new`, with all that the words fed write, or st, as it was at opening
+unfoldable pub leaves : Bool → Standing → List ℕ → List ℕ → List ℕ
+leaves kept s new st = settle (closes kept s) new st

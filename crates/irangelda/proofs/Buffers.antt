@@ -20,8 +20,9 @@ use Rattle.meaning.specs.Words.{wordsOf, bytesOf}
 use Rattle.meaning.specs.Grants.{Terms, termsOf, grantsFine}
 use Rattle.meaning.specs.State.{wellFormed, applyAll}
 use Rattle.meaning.specs.Positions.{nextKind, nextLeft, writesOf}
-use Rattle.meaning.specs.Answers.{badState, badGrants, badBuffer, success, numberOf, provided, settle}
-use Rattle.meaning.specs.Reader.{judge, follow, run, batchAnswer, readAnswer, readLeaves}
+use Rattle.meaning.specs.Answers.{badState, badGrants, badBuffer, success, numberOf, provided, settle, badPair, answer}
+use Rattle.meaning.specs.Pair.{pairKept}
+use Rattle.meaning.specs.Reader.{judge, follow, run, batchAnswer, readAnswer, readLeaves, unless, pairedAnswer}
 use Rattle.meaning.specs.Writer.{written, writeAnswer}
 use Rattle.meaning.specs.Query.{queryAnswer}
 use Rattle.meaning.specs.Lister.{listAnswer, listLeaves}
@@ -110,15 +111,25 @@ module _ (batch gs st : List ℕ) where
   unfolding exportedRead exportedReadLeaves
   read-answered e {r} a l n = rw (e, ← a) (n, l ∙ ap (λ (x : List ℕ). settle r x st) (whole-state e))
 
+  -- the answer on the words
+  abbrev words : Answer
+  words = run (termsOf (wordsOf gs)) Setting 0 (wordsOf batch)
+
   -- a place is small
   pub read-small : Fine true → readAnswer (wordsOf batch) (wordsOf gs) (wordsOf st) .place ≤ mostBytes
-  unfolding readAnswer batchAnswer
-  read-small e = by (wellFormed (wordsOf st)) (grantsFine (wordsOf gs))
+  unfolding readAnswer pairedAnswer batchAnswer
+  read-small e =
+      by (wellFormed (wordsOf st)) (grantsFine (wordsOf gs)) (eqb (words .reason) success)
+      (unless (pairKept (termsOf (wordsOf gs)) (wordsOf st) (writesOf (wordsOf batch))) badPair success)
     where
-      by : (b c : Bool) → provided b badState (provided c badGrants (run (termsOf (wordsOf gs)) Setting 0 (wordsOf batch))) .place ≤ mostBytes
-      by false c = omega arith
-      by true false = omega arith
-      by true true = omega (arith, run-within (termsOf (wordsOf gs)) Setting 0 (wordsOf batch), length-words batch, told e .0)
+      small : words .place ≤ mostBytes
+      small = omega (arith, run-within (termsOf (wordsOf gs)) Setting 0 (wordsOf batch), length-words batch, told e .0)
+
+      by : (b c d : Bool) (r : ℕ) → provided b badState (provided c badGrants (cond d (answer r (words .place)) words)) .place ≤ mostBytes
+      by false c d r = omega arith
+      by true false d r = omega arith
+      by true true true r = small
+      by true true false r = small
 
 -- ---- write
 

@@ -3,7 +3,7 @@
 use mathlib.Core.Path.{_≡_, refl, _∙_}
 use mathlib.Core.List.{List, [], _∷_}
 use mathlib.Core.Bool.{true, false}
-use Prim.Native.Nat.{ℕ, zero, suc, _+_, _-_, _^_, _≤_, _<_}
+use Prim.Native.Nat.{ℕ, zero, suc, _+_, _-_, _≤_, _<_}
 use native.Mathlib.Omega.{arith}
 use native.Mathlib.Decide.{ℕ-discrete, decLe}
 use borrow.Author.Tests.{eq-eqb, ne-eqb, le-leb, lt-leb}
@@ -13,8 +13,10 @@ use lib.Seq.{getD-set-same, getD-set-other}
 use mir.Facts.{and-yes}
 use Rattle.laws.specs.Lists.{every}
 use Rattle.meaning.specs.Grants.{Grant, mostGrants, grantsOf, grantFine, grantsFine}
-use Rattle.keeping.specs.Keeping.{Kept, withRole, beginnings, place}
-use Rattle.numbering.proofs.Grants.{length-grants, fine-list, fine-grant}
+use Rattle.grants.specs.Kept.{bearing}
+use Rattle.keeping.specs.Keeping.{Kept, withRole, inMemory1, beginnings, place}
+use Rattle.meaning.proofs.Fitter.{InMemory, grant-rules}
+use Rattle.numbering.proofs.Grants.{length-grants, fine-list}
 
 -- ---- how many have a role
 
@@ -56,6 +58,17 @@ with-all (g ∷ gs) =
       ]
     ]
 
+-- ---- how many are in memory 1
+
+-- of grants that keep their rules, no more than there are; and none of them has no role
+pub memory-few : (gs : List Grant) → T (every grantFine gs) → inMemory1 gs + withRole 0 gs ≤ length gs
+unfolding inMemory1 every
+memory-few [] fine = omega (arith, with-none 0)
+memory-few (g ∷ gs) fine =
+    let both = and-yes (grantFine g) (every grantFine gs) fine in
+    let rules = grant-rules g (both .0) in
+    omega (arith, memory-few gs (both .1), rules .memory, with-other g gs 0 (λ e. omega (arith, rules .low)))
+
 -- ---- the room
 
 -- the parts lie one behind another, and have room for these grants
@@ -74,18 +87,19 @@ below4 P p0 p1 p2 p3 (suc (suc (suc zero))) h = p3
 below4 P p0 p1 p2 p3 (suc (suc (suc (suc n)))) h = absurd (omega arith)
 
 -- at first each part is empty,
-pub empty-first : (gs : List Grant) (role : ℕ) → role < 4 → getD (beginnings gs) (4 + role) 0 ≡ getD (beginnings gs) role 0
+pub empty-first : (gs : List Grant) (role : ℕ) → 1 ≤ role → role < 4 → getD (beginnings gs) (4 + role) 0 ≡ getD (beginnings gs) role 0
 unfolding beginnings
-empty-first gs = below4 (λ (r : ℕ). getD (beginnings gs) (4 + r) 0 ≡ getD (beginnings gs) r 0) refl refl refl refl
+empty-first gs role low high =
+    below4 (λ (r : ℕ). 1 ≤ r → getD (beginnings gs) (4 + r) 0 ≡ getD (beginnings gs) r 0) (λ l. absurd (omega arith)) (λ l. refl) (λ l. refl) (λ l. refl) role high low
 
 -- and there is room for all
-pub room-first : (gs : List Grant) → length gs ≤ mostGrants → Room gs (beginnings gs)
+pub room-first : (gs : List Grant) → T (every grantFine gs) → length gs ≤ mostGrants → Room gs (beginnings gs)
 unfolding beginnings
-room-first gs few =
+room-first gs fine few =
     let all = with-all gs in
     record {
       long = refl;
-      begun = λ role high. omega (arith, empty-first gs role high);
+      begun = λ role high. elim (decLe 1 role) [ yes low ↦ omega (arith, empty-first gs role low high) | no none ↦ let e : role ≡ 0 = omega arith in rw e (omega arith) ];
       apart = λ role next low before high.
           elim (ℕ-discrete role 1) [
             | yes e ↦ elim (ℕ-discrete next 2) [
@@ -94,7 +108,7 @@ room-first gs few =
             ]
             | no n ↦ let e : role ≡ 2 = omega arith in let f : next ≡ 3 = omega arith in rw (e, f) (omega arith)
           ];
-      inside = below4 (λ (r : ℕ). getD (beginnings gs) (4 + r) 0 + withRole r gs ≤ mostGrants) (omega (arith, with-few 0 gs)) (omega arith) (omega arith) (omega arith);
+      inside = below4 (λ (r : ℕ). getD (beginnings gs) (4 + r) 0 + withRole r gs ≤ mostGrants) (omega (arith, memory-few gs fine)) (omega arith) (omega arith) (omega arith);
     }
 
 -- a grant that is not kept leaves the room to the others
@@ -151,7 +165,7 @@ pub record Ready (gs : List Grant) (bounds : List ℕ) : Type 0 where
 pub ready-first : (ws : List ℕ) → T (grantsFine ws) → Ready (grantsOf ws) (beginnings (grantsOf ws))
 ready-first ws fine =
     let told = fine-list ws fine in
-    record { fine = told .2; room = room-first (grantsOf ws) (omega (arith, length-grants ws, told .1)) }
+    record { fine = told .2; room = room-first (grantsOf ws) (told .2) (omega (arith, length-grants ws, told .1)) }
 
 module _ (n : ℕ) (g : Grant) (k : Kept) where
   -- a grant that covers some address is kept, and another is not
@@ -160,7 +174,7 @@ module _ (n : ℕ) (g : Grant) (k : Kept) where
       ≡ record {
         starts = set (k .starts) (getD (k .bounds) (4 + g .role) 0) (g .start);
         lasts = set (k .lasts) (getD (k .bounds) (4 + g .role) 0) (g .start + (g .length - g .reach));
-        numbers = set (k .numbers) (getD (k .bounds) (4 + g .role) 0) n;
+        numbers = set (k .numbers) (getD (k .bounds) (4 + g .role) 0) (bearing n (g .memory));
         bounds = longer g (k .bounds);
       }
   unfolding place
@@ -171,13 +185,13 @@ module _ (n : ℕ) (g : Grant) (k : Kept) where
   place-past e = rw e
 
   module _ (gs : List Grant) (ready : Ready (g ∷ gs) (k .bounds)) where
-    pub first-fine : (1 ≤ g .role) × (g .role ≤ 3) × (g .start + g .length ≤ 2 ^ 32) × (1 ≤ g .reach)
+    pub first-fine : InMemory g
     unfolding every
-    first-fine = fine-grant g (and-yes (grantFine g) (every grantFine gs) (ready .fine) .0)
+    first-fine = grant-rules g (and-yes (grantFine g) (every grantFine gs) (ready .fine) .0)
 
     -- there is room for it
     pub first-room : getD (k .bounds) (4 + g .role) 0 < mostGrants
-    first-room = omega (arith, ready .room .inside (g .role) (omega (arith, first-fine)), with-own g gs (g .role) refl)
+    first-room = omega (arith, ready .room .inside (g .role) (omega (arith, first-fine .high)), with-own g gs (g .role) refl)
 
     -- and then for those after it
     pub ready-next : Ready gs (place n g k .bounds)
@@ -186,6 +200,6 @@ module _ (n : ℕ) (g : Grant) (k : Kept) where
         let rest = and-yes (grantFine g) (every grantFine gs) (ready .fine) .1 in
         elim (decLe (g .reach) (g .length)) [
           | yes h ↦ rw (place-kept (le-leb (g .reach) (g .length) h))
-              (record { fine = rest; room = room-next g gs (k .bounds) (ready .room) (omega (arith, first-fine)) })
+              (record { fine = rest; room = room-next g gs (k .bounds) (ready .room) (omega (arith, first-fine .high)) })
           | no h ↦ rw (place-past (lt-leb (g .reach) (g .length) (omega arith))) (record { fine = rest; room = room-past g gs (k .bounds) (ready .room) })
         ]

@@ -1,11 +1,13 @@
--- How the grants of a list come to be kept: each at the end of its role's part, in the order of the list, with its number there.
+-- How the grants of a list come to be kept: each at the end of its role's part, in the order of the list, with its number there and its
+-- memory.
 -- Assumes nothing.
 use mathlib.Core.Bool.{cond}
 use mathlib.Core.List.{List, [], _∷_}
-use Prim.Native.Nat.{ℕ, suc, _+_, _-_}
+use Prim.Native.Nat.{ℕ, zero, suc, _+_, _-_}
 use lib.Dec.{leb, eqb}
 use lib.ListN.{getD, set}
 use Rattle.meaning.specs.Grants.{Grant, grantsOf, grantsFine}
+use Rattle.grants.specs.Kept.{bearing}
 
 -- the whole of it
 pub record Kept : Type 0 where
@@ -22,7 +24,7 @@ place n g k =
     (record {
       starts = set (k .starts) at (g .start);
       lasts = set (k .lasts) at (g .start + (g .length - g .reach));
-      numbers = set (k .numbers) at n;
+      numbers = set (k .numbers) at (bearing n (g .memory));
       bounds = set (k .bounds) (4 + g .role) (at + 1);
     })
     k
@@ -37,6 +39,16 @@ unfoldable pub withRole : ℕ → List Grant → ℕ
 withRole role [] = 0
 withRole role (g ∷ gs) = let more = withRole role gs in cond (eqb (g .role) role) (suc more) more
 
+-- how many grants are in memory 1, where each is in memory 0 or 1
+unfoldable pub inMemory1 : List Grant → ℕ
+inMemory1 [] = 0
+inMemory1 (g ∷ gs) = g .memory + inMemory1 gs
+
+-- what is counted: for each role those that have it, and, where no role is, those in memory 1
+abbrev pub counted : ℕ → List Grant → ℕ
+counted zero gs = inMemory1 gs
+counted (suc role) gs = withRole (suc role) gs
+
 -- nothing is counted, and nothing is kept
 abbrev pub noCounts : List ℕ
 noCounts = 0 ∷ 0 ∷ 0 ∷ 0 ∷ []
@@ -44,20 +56,17 @@ noCounts = 0 ∷ 0 ∷ 0 ∷ 0 ∷ []
 abbrev pub noBounds : List ℕ
 noBounds = 0 ∷ 0 ∷ 0 ∷ 0 ∷ 0 ∷ 0 ∷ 0 ∷ 0 ∷ []
 
--- each role's part begins behind those before it, and is empty
+-- each role's part begins behind those before it, and is empty; where no role's is, the number of grants in memory 1
 unfoldable pub beginnings : List Grant → List ℕ
 beginnings gs =
     let second = withRole 1 gs in
     let third = withRole 1 gs + withRole 2 gs in
-    0 ∷ 0 ∷ second ∷ third ∷ 0 ∷ 0 ∷ second ∷ third ∷ []
+    0 ∷ 0 ∷ second ∷ third ∷ inMemory1 gs ∷ 0 ∷ second ∷ third ∷ []
+
+-- the beginnings of a list that keeps its rules; else nothing is begun
+unfoldable pub begunBy : List ℕ → List ℕ
+begunBy ws = cond (grantsFine ws) (beginnings (grantsOf ws)) noBounds
 
 -- the grants of a list kept, over what stood in the room for them
 unfoldable pub keptOf : List Grant → List ℕ → List ℕ → List ℕ → Kept
 keptOf gs starts lasts numbers = placeAll 0 gs (record { starts = starts; lasts = lasts; numbers = numbers; bounds = beginnings gs })
-
--- the same where the list keeps its rules; else nothing is kept
-unfoldable pub keptAfter : List ℕ → List ℕ → List ℕ → List ℕ → Kept
-keptAfter ws starts lasts numbers =
-    cond (grantsFine ws)
-    (keptOf (grantsOf ws) starts lasts numbers)
-    (record { starts = starts; lasts = lasts; numbers = numbers; bounds = noBounds })

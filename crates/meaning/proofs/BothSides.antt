@@ -16,33 +16,34 @@ use Rattle.laws.proofs.Lists.{every-from}
 use Rattle.laws.proofs.Tests.{beq-iff}
 use Rattle.meaning.specs.Words.{bytesOf, count, offset, paraAdr, paraOS, paraType, paraSubType, subAddress, data24}
 use Rattle.meaning.specs.Registers.{cells, formats, bytesAmong, bytesPerPixel, formatTable, alphaConstants, location, formatByte, levels, filters, mapping, alphaSelect, memoryLocation, targetGroup, stage, sample, sections, overlay, scaler, find, findAmong, find3D, findOffset, findVideo, registerAmong, registerIn, registerAt}
-use Rattle.meaning.specs.Grants.{grantFine, grantsFine, covers, granted}
+use Rattle.meaning.specs.Grants.{memoryFine, grantFine, grantsFine, covers, granted}
 use Rattle.meaning.specs.Batch.{allowedTypes, typeAllowed, allowed}
 use Rattle.meaning.specs.State.{stateWords, cellFormed, wellFormed, empty, apply, applyAll}
+use Rattle.meaning.specs.Pair.{memoryOf, pairFine, wrotePair, pairKept}
 use Rattle.meaning.specs.Positions.{kindOf, after, nextKind, nextLeft, goes, carries, writeAt, writesFrom, writesOf}
-use Rattle.meaning.specs.Reader.{unless, runIn, headerReason, valueReason, wordReason, judge, run, batchAnswer, readAnswer, readLeaves}
+use Rattle.meaning.specs.Reader.{unless, runIn, headerReason, valueReason, wordReason, judge, run, batchAnswer, pairedAnswer, readAnswer, readLeaves}
 use Rattle.meaning.specs.Answers.{answer}
 use Rattle.meaning.specs.Writer.{parameters, packetsVideo, packetsAmong, wordsFor, written, mostWritten, countRows, packetNeed, needAmong, needFor, writable, lowestBad, writeAnswer}
 use Rattle.meaning.specs.Text.{ascii}
 use Rattle.meaning.specs.Lister.{digit, hex, decimal, linesOf, linesAmong, cellLines, listing}
 use Rattle.meaning.specs.ListingReader.{isHex, along, digitWorth, worth, tableLines, readLines, readCount, readFirst, readText, listingAnswer, listingLeaves}
-use Rattle.meaning.specs.Cases.{holding, cases, slips, Holds, filtersRefused, filtersAccepted, BothRefuse, BothTake, keeping, breaking, full, formatBytes}
+use Rattle.meaning.specs.Cases.{with, holding, cases, slips, Holds, filtersRefused, filtersAccepted, BothRefuse, BothTake, keeping, breaking, full, formatBytes}
 
 -- X8 "K1 to K12 are one table, and one statement about the definitions is proved of all of it."
 pub cases-hold : All Holds cases
-unfolding cases holding count offset paraAdr paraOS paraType paraSubType subAddress data24 formats bytesAmong bytesPerPixel alphaConstants location formatByte levels filters mapping alphaSelect memoryLocation targetGroup stage sample sections overlay scaler find findAmong find3D findVideo findOffset registerAmong registerIn registerAt grantFine grantsFine covers granted allowedTypes typeAllowed allowed cellFormed wellFormed empty apply applyAll kindOf after nextKind nextLeft goes carries writeAt writesFrom writesOf unless runIn headerReason valueReason wordReason judge run batchAnswer readAnswer readLeaves every some from oneOf
+unfolding cases with holding count offset paraAdr paraOS paraType paraSubType subAddress data24 formats bytesAmong bytesPerPixel alphaConstants location formatByte levels filters mapping alphaSelect memoryLocation targetGroup stage sample sections overlay scaler find findAmong find3D findVideo findOffset registerAmong registerIn registerAt memoryFine grantFine grantsFine covers granted allowedTypes typeAllowed allowed cellFormed wellFormed empty apply applyAll memoryOf pairFine wrotePair pairKept kindOf after nextKind nextLeft goes carries writeAt writesFrom writesOf unless runIn headerReason valueReason wordReason judge run batchAnswer pairedAnswer readAnswer readLeaves every some from oneOf
 cases-hold = (
   (refl, refl),
   ((refl, refl), ((refl, refl), ((refl, refl), ((refl, refl), ((refl, refl), ((refl, refl), ((refl, refl), ((refl, refl), ((refl, refl), ((refl, refl), ((refl, refl), tt))))))))))),
 )
 
 pub slips-hold : All Holds slips
-unfolding slips holding count offset paraAdr paraOS paraType paraSubType subAddress data24 formats bytesAmong bytesPerPixel alphaConstants location formatByte levels filters mapping alphaSelect memoryLocation targetGroup stage sample sections overlay scaler find findAmong find3D findVideo findOffset registerAmong registerIn registerAt grantFine grantsFine covers granted allowedTypes typeAllowed allowed cellFormed wellFormed empty apply applyAll kindOf after nextKind nextLeft goes carries writeAt writesFrom writesOf unless runIn headerReason valueReason wordReason judge run batchAnswer readAnswer readLeaves every some from oneOf
+unfolding slips with holding count offset paraAdr paraOS paraType paraSubType subAddress data24 formats bytesAmong bytesPerPixel alphaConstants location formatByte levels filters mapping alphaSelect memoryLocation targetGroup stage sample sections overlay scaler find findAmong find3D findVideo findOffset registerAmong registerIn registerAt memoryFine grantFine grantsFine covers granted allowedTypes typeAllowed allowed cellFormed wellFormed empty apply applyAll memoryOf pairFine wrotePair pairKept kindOf after nextKind nextLeft goes carries writeAt writesFrom writesOf unless runIn headerReason valueReason wordReason judge run batchAnswer pairedAnswer readAnswer readLeaves every some from oneOf
 slips-hold = ((refl, refl), ((refl, refl), ((refl, refl), ((refl, refl), ((refl, refl), ((refl, refl), ((refl, refl), tt)))))))
 
 -- R7 "bits 12:10 and bits 6:4 are both 2 or neither is", from both sides, for the reader and for the writer: K24 to K29
 pub filters-hold : All BothRefuse filtersRefused × All BothTake filtersAccepted
-unfolding filtersRefused filtersAccepted holding count offset paraAdr paraOS paraType paraSubType subAddress data24 filters targetGroup stage sample sections overlay scaler find findAmong find3D findVideo findOffset registerAmong registerIn registerAt grantsFine allowedTypes typeAllowed allowed cellFormed wellFormed empty apply applyAll kindOf after nextKind nextLeft goes carries writeAt writesFrom writesOf unless runIn headerReason valueReason wordReason judge run batchAnswer readAnswer readLeaves every some from oneOf parameters packetsVideo packetsAmong wordsFor written countRows packetNeed needAmong needFor writable lowestBad writeAnswer
+unfolding filtersRefused filtersAccepted with holding count offset paraAdr paraOS paraType paraSubType subAddress data24 filters targetGroup stage sample sections overlay scaler find findAmong find3D findVideo findOffset registerAmong registerIn registerAt grantsFine allowedTypes typeAllowed allowed cellFormed wellFormed empty apply applyAll memoryOf pairFine wrotePair pairKept kindOf after nextKind nextLeft goes carries writeAt writesFrom writesOf unless runIn headerReason valueReason wordReason judge run batchAnswer pairedAnswer readAnswer readLeaves every some from oneOf parameters packetsVideo packetsAmong wordsFor written countRows packetNeed needAmong needFor writable lowestBad writeAnswer
 filters-hold = (
   (((refl, refl), refl), (((refl, refl), refl), (((refl, refl), refl), (((refl, refl), refl), (((refl, refl), refl), (((refl, refl), refl), (((refl, refl), refl), (((refl, refl), refl), tt)))))))),
   (((refl, refl), refl, refl), (((refl, refl), refl, refl), (((refl, refl), refl, refl), (((refl, refl), refl, refl), (((refl, refl), refl, refl), (((refl, refl), refl, refl), (((refl, refl), refl, refl), tt))))))),
@@ -55,12 +56,12 @@ order-example = refl
 
 -- one packet for a stage's cell, and one for a video cell
 pub written-example : written (set (set (holding 10 1) 84 0x07FF07FF) (cells + 84) 1) ≡ 0x0002043C ∷ 0x03020000 ∷ 0x50000001 ∷ 0x00012208 ∷ 0x07FF07FF ∷ []
-unfolding holding empty parameters packetsVideo packetsAmong wordsFor written targetGroup stage sample sections overlay scaler from
+unfolding with holding empty parameters packetsVideo packetsAmong wordsFor written targetGroup stage sample sections overlay scaler from
 written-example = refl
 
 -- Y12 "a 3D value not below 2^24"
 pub unwritable-example : writeAnswer (holding 0 0x1000000) [] mostWritten ≡ answer 12 0
-unfolding holding empty cellFormed wellFormed grantsFine writable lowestBad writeAnswer valueReason unless alphaConstants registerAt registerIn registerAmong targetGroup stage sample sections overlay scaler every from
+unfolding with holding empty cellFormed wellFormed grantsFine writable lowestBad pairFine writeAnswer valueReason unless alphaConstants registerAt registerIn registerAmong targetGroup stage sample sections overlay scaler every from
 unwritable-example = refl
 
 -- C2 "four bytes are a word of 32 bits, the lowest byte first"
@@ -69,17 +70,17 @@ bytes-example = refl
 
 -- L8 "The state that K1 leaves has this listing, and nothing more"
 pub listing-example : listing (holding 1 0x001000) ≡ ascii "cells=1\nreg=01.00.50 val=00001000\n"
-unfolding holding empty digit hex decimal linesOf linesAmong cellLines listing targetGroup stage sample sections overlay scaler from
+unfolding with holding empty digit hex decimal linesOf linesAmong cellLines listing targetGroup stage sample sections overlay scaler from
 listing-example = refl
 
 -- L5 "like `reg=23f0 val=00001000`: an offset of four digits and a value of eight", L3 "in lower case"
 pub video-line-example : listing (holding 90 0x0009ABC0) ≡ ascii "cells=1\nreg=23f0 val=0009abc0\n"
-unfolding holding empty digit hex decimal linesOf linesAmong cellLines listing targetGroup stage sample sections overlay scaler from
+unfolding with holding empty digit hex decimal linesOf linesAmong cellLines listing targetGroup stage sample sections overlay scaler from
 video-line-example = refl
 
 -- A8 "what the words are does not matter": K1's listing, read back into a buffer of ones, leaves nothing of them
 pub restored-example : listingLeaves (ascii "cells=1\nreg=01.00.50 val=00001000\n") (replicate stateWords 1) ≡ holding 1 0x001000
-unfolding holding empty apply applyAll digit hex isHex along digitWorth worth tableLines readLines readCount readFirst readText listingAnswer listingLeaves targetGroup stage sample sections overlay scaler from
+unfolding with holding empty apply applyAll digit hex isHex along digitWorth worth tableLines readLines readCount readFirst readText listingAnswer listingLeaves targetGroup stage sample sections overlay scaler from
 restored-example = refl
 
 -- W4 "No state needs more than 184 words.", L6 "No listing has more than 2,568 bytes.": a state with every cell marked needs as many
@@ -89,7 +90,7 @@ full-is-the-most = (refl, refl, refl)
 
 -- the rules of the grant list, G2 to G4, from both sides
 pub grant-rules-hold : T (every grantsFine keeping) × T (every (λ l. not (grantsFine l)) breaking)
-unfolding keeping breaking grantFine grantsFine every
+unfolding keeping breaking memoryFine grantFine grantsFine every
 grant-rules-hold = (tt, tt)
 
 -- ---- the format table

@@ -8,7 +8,7 @@ use Prim.Native.Nat.{ℕ, zero, suc, _≤_, _<_}
 use native.Mathlib.Omega.{arith}
 use native.Mathlib.Decide.{ℕ-discrete}
 use borrow.Author.Tests.{eqb-true, eqb-false, ne-eqb}
-use lib.Dec.{T, leb, eqb}
+use lib.Dec.{T, leb, eqb, lit<}
 use lib.ListN.{length, getD}
 use lib.Bits.{bitAnd}
 use mir.Facts.{not-T, and-yes, yes-and, leb-yes, leb-no, eqb-yes, yes-eqb}
@@ -26,15 +26,18 @@ use Rattle.meaning.specs.Registers.{isFound, findVideo, registerAt}
 use Rattle.meaning.specs.Grants.{Terms, termsOf, grantsFine}
 use Rattle.meaning.specs.Batch.{reaches, offset3D, most3D, allowed, named, Cut}
 use Rattle.meaning.specs.State.{wellFormed}
-use Rattle.meaning.specs.Positions.{nextKind, nextLeft, positionFrom, positionAt, goes, carries}
+use Rattle.meaning.specs.Pair.{pairKept, Permitted}
+use Rattle.meaning.specs.Positions.{nextKind, nextLeft, positionFrom, positionAt, goes, carries, writesOf}
 use Rattle.meaning.specs.Answers.{answer, provided}
-use Rattle.meaning.specs.Reader.{unless, runIn, reason3D, reasonVideo, headerReason, valueReason, foundReason, wordReason, judge, onward, follow, ended, run, batchAnswer, readAnswer}
+use Rattle.meaning.specs.Reader.{unless, runIn, reason3D, reasonVideo, headerReason, valueReason, foundReason, wordReason, judge, onward, follow, ended, run, batchAnswer, paired, pairedAnswer, readAnswer}
 use Rattle.meaning.specs.Reasons.{VideoRun, Given, bad-offset, bad-count, bad-run, bad-setting, no-register, bit-set, bad-value, not-granted, NoneBefore, ReaderGives}
-use Rattle.meaning.specs.Reasons.ReaderGives.{bad-state, bad-grants, at-word, ends-inside, accepted}
+use Rattle.meaning.specs.Reasons.ReaderGives.{bad-state, bad-grants, at-word, ends-inside, bad-pair, accepted}
+use Rattle.meaning.proofs.Verdicts.{unless-fine}
 use Rattle.meaning.proofs.Packets.{never-both}
 use Rattle.meaning.proofs.Reading.{batch-permitted, batch-length}
 use Rattle.meaning.proofs.Places.{Good, good-next}
 use Rattle.meaning.proofs.Bytes.{exactly}
+use Rattle.meaning.proofs.Writes.{writes-of-cut}
 
 -- ---- tests
 
@@ -252,50 +255,79 @@ module _ (g : Terms) where
 
 -- ---- the call
 
+-- accepted: by its words and by the pair
+paired-accepted : (b : Bool) (a : Answer) → (paired b a .reason ≡ 0) ↔ (T b × (a .reason ≡ 0))
+paired-accepted b a = by (eqb (a .reason) 0) refl b
+  where
+    by : (c : Bool) → eqb (a .reason) 0 ≡ c → (d : Bool) → (cond c (answer (unless d 14 0) (a .place)) a .reason ≡ 0) ↔ (T d × (a .reason ≡ 0))
+    by true e true = (λ z. (tt, eqb-true (a .reason) 0 e), λ p. unless-fine true 14 {v = 0} (lit< tt) .1 (tt, refl))
+    by true e false = (λ z. absurd (unless-fine false 14 {v = 0} (lit< tt) .0 z .0), λ p. absurd (p .0))
+    by false e d = (λ z. absurd (eqb-false (a .reason) 0 e z), λ p. absurd (eqb-false (a .reason) 0 e (p .1)))
+
 module _ (batch grants st : List ℕ) where
   abbrev g : Terms
   g = termsOf grants
 
-  told-batch : T (wellFormed st) → T (grantsFine grants) → {a : Answer} → Outcome g Setting 0 batch a → ReaderGives batch grants st (a .reason) (a .place)
-  unfolding positionAt
-  told-batch s l (stops {r} {p} h c j) = at-word s l h (clean-none g batch p c) (judge-given g _ _ _ r (good-at g Setting 0 batch p tt (omega arith) c) j)
-  told-batch s l (ends zero c q) = accepted s l (clean-none g batch (length batch) c) q
-  told-batch s l (ends (suc n) c q) = ends-inside s l (clean-none g batch (length batch) c) (omega arith)
+  abbrev kept : Bool
+  kept = pairKept g st (writesOf batch)
+
+  told-batch : T (wellFormed st) → T (grantsFine grants) → {a : Answer} → Outcome g Setting 0 batch a → (b : Bool) → kept ≡ b
+      → ReaderGives batch grants st (paired b a .reason) (paired b a .place)
+  unfolding positionAt unless
+  told-batch s l (stops {r} {p} h c j) b k =
+      rw (ne-eqb (suc r) 0 (λ e. omega arith))
+      (at-word s l h (clean-none g batch p c) (judge-given g _ _ _ r (good-at g Setting 0 batch p tt (omega arith) c) j))
+  told-batch s l (ends zero c q) true k = accepted s l (clean-none g batch (length batch) c) q (holds-of k)
+  told-batch s l (ends zero c q) false k = bad-pair s l (clean-none g batch (length batch) c) q (fails-of k)
+  told-batch s l (ends (suc n) c q) b k = ends-inside s l (clean-none g batch (length batch) c) (omega arith)
 
   told-as : (b c : Bool) → wellFormed st ≡ b → grantsFine grants ≡ c
-      → ReaderGives batch grants st (provided b 1 (provided c 2 (batchAnswer g batch)) .reason) (provided b 1 (provided c 2 (batchAnswer g batch)) .place)
-  unfolding batchAnswer
+      → ReaderGives batch grants st (provided b 1 (provided c 2 (pairedAnswer g st batch)) .reason) (provided b 1 (provided c 2 (pairedAnswer g st batch)) .place)
+  unfolding pairedAnswer batchAnswer
   told-as false c e f = bad-state (fails-of e)
   told-as true false e f = bad-grants (holds-of e) (fails-of f)
-  told-as true true e f = told-batch (holds-of e) (holds-of f) (outcome g Setting 0 batch)
+  told-as true true e f = told-batch (holds-of e) (holds-of f) (outcome g Setting 0 batch) kept refl
 
   pub read-told : ReaderGives batch grants st (readAnswer batch grants st .reason) (readAnswer batch grants st .place)
   unfolding readAnswer
   read-told = told-as (wellFormed st) (grantsFine grants) refl refl
 
-  pub read-batch : T (wellFormed st) → T (grantsFine grants) → readAnswer batch grants st ≡ batchAnswer g batch
+  pub read-batch : T (wellFormed st) → T (grantsFine grants) → readAnswer batch grants st ≡ pairedAnswer g st batch
   unfolding readAnswer
   read-batch s l = rw (true-of (wellFormed st) s, true-of (grantsFine grants) l)
 
+  ended-whole : NoneBefore g batch (length batch) → positionAt batch (length batch) .left ≡ 0 → batchAnswer g batch ≡ answer 0 (length batch)
+  unfolding batchAnswer positionAt
+  ended-whole b q =
+      run-ends g Setting 0 batch (none-clean g batch (length batch) (omega arith) b) ∙ ap (λ (n : ℕ). answer (ended n .reason) (length batch)) q
+
+  -- a word's refusal stands, and where there is none the pair decides
+  refused-as : {a : Answer} → batchAnswer g batch ≡ a → a .reason ≢ 0 → pairedAnswer g st batch ≡ a
+  unfolding pairedAnswer
+  refused-as {a} e n = rw (e, ne-eqb (a .reason) 0 n)
+
+  done-as : {b : Bool} → batchAnswer g batch ≡ answer 0 (length batch) → kept ≡ b → pairedAnswer g st batch ≡ answer (unless b 14 0) (length batch)
+  unfolding pairedAnswer
+  done-as e k = rw (e, k)
+
   pub read-answer : {r p : ℕ} → ReaderGives batch grants st r p → readAnswer batch grants st ≡ answer r p
-  unfolding readAnswer batchAnswer positionAt
+  unfolding readAnswer batchAnswer positionAt unless
   read-answer (bad-state n) = rw (false-of (wellFormed st) n)
   read-answer (bad-grants s n) = rw (true-of (wellFormed st) s, false-of (grantsFine grants) n)
   read-answer (at-word {r} {p} s l h b v) =
-      read-batch s l ∙ stops-as r (given-range g v .0) (given-judge g v)
+      read-batch s l ∙ refused-as (stops-as r (given-range g v .0) (given-judge g v)) (λ e. omega (arith, given-range g v .0))
     where
       stops-as : (x : ℕ) → 3 ≤ x → judgeAt g Setting 0 batch p ≡ x → run g Setting 0 batch ≡ answer x p
       stops-as zero q e = absurd (omega arith)
       stops-as (suc x) q e = run-stops g Setting 0 batch x p h (none-clean g batch p (omega arith) b) e
   read-answer (ends-inside s l b q) =
-      read-batch s l ∙ run-ends g Setting 0 batch (none-clean g batch (length batch) (omega arith) b) ∙ ended-inside _ q
+      read-batch s l ∙ refused-as (run-ends g Setting 0 batch (none-clean g batch (length batch) (omega arith) b) ∙ ended-inside _ q) (λ e. omega arith)
     where
       ended-inside : (n : ℕ) → 0 < n → answer (ended n .reason) (length batch) ≡ answer 10 (length batch)
       ended-inside zero z = absurd (omega arith)
       ended-inside (suc n) z = refl
-  read-answer (accepted s l b q) =
-      read-batch s l ∙ run-ends g Setting 0 batch (none-clean g batch (length batch) (omega arith) b)
-      ∙ ap (λ (n : ℕ). answer (ended n .reason) (length batch)) q
+  read-answer (bad-pair s l b q n) = read-batch s l ∙ done-as (ended-whole b q) (false-of kept n)
+  read-answer (accepted s l b q t) = read-batch s l ∙ done-as (ended-whole b q) (true-of kept t)
 
   -- what an accepted batch was judged by
   pub accepted-parts : {r p : ℕ} → ReaderGives batch grants st r p → r ≡ 0 → T (wellFormed st) × T (grantsFine grants)
@@ -303,27 +335,51 @@ module _ (batch grants st : List ℕ) where
   accepted-parts (bad-grants s n) e = absurd (omega arith)
   accepted-parts (at-word s l h b v) e = (s, l)
   accepted-parts (ends-inside s l b q) e = (s, l)
-  accepted-parts (accepted s l b q) e = (s, l)
+  accepted-parts (bad-pair s l b q n) e = (s, l)
+  accepted-parts (accepted s l b q t) e = (s, l)
 
-  pub read-range : {r p : ℕ} → ReaderGives batch grants st r p → r ≤ 10
-  read-range (bad-state n) = omega arith
-  read-range (bad-grants s n) = omega arith
-  read-range (at-word s l h b v) = omega (arith, given-range g v .1)
-  read-range (ends-inside s l b q) = omega arith
-  read-range (accepted s l b q) = omega arith
+  pub read-range : {r p : ℕ} → ReaderGives batch grants st r p → (r ≢ 13) × (r ≤ 14)
+  read-range (bad-state n) = (λ e. omega arith, omega arith)
+  read-range (bad-grants s n) = (λ e. omega arith, omega arith)
+  read-range (at-word s l h b v) = let k = given-range g v .1 in (λ e. omega arith, omega arith)
+  read-range (ends-inside s l b q) = (λ e. omega arith, omega arith)
+  read-range (bad-pair s l b q n) = (λ e. omega arith, omega arith)
+  read-range (accepted s l b q t) = (λ e. omega arith, omega arith)
+
+  -- "Permitted batches gain this condition"
+  pub paired-permitted : (pairedAnswer g st batch .reason ≡ 0) ↔ Permitted g st batch
+  unfolding pairedAnswer
+  paired-permitted = (
+    λ e.
+        let p = paired-accepted kept (batchAnswer g batch) .0 e in
+        let c = batch-permitted g batch .0 (p .1) in
+        record { cut = c; pair = rw (writes-of-cut g batch c) at (p .0) },
+    λ p. paired-accepted kept (batchAnswer g batch) .1 (rw (writes-of-cut g batch (p .cut)) (p .pair), batch-permitted g batch .1 (p .cut)),
+  )
+
+  pub accepted-permitted : readAnswer batch grants st .reason ≡ 0 → Permitted g st batch
+  accepted-permitted e =
+      let w = accepted-parts read-told e in
+      paired-permitted .0 (rw (read-batch (w .0) (w .1)) at e)
 
   pub accepted-cut : readAnswer batch grants st .reason ≡ 0 → Cut g batch
-  accepted-cut e =
-      let w = accepted-parts read-told e in
-      batch-permitted g batch .0 (rw (read-batch (w .0) (w .1)) at e)
+  accepted-cut e = accepted-permitted e .cut
 
-  -- it is accepted, with its length for a place, exactly if it can be cut
-  pub accepted-iff : T (wellFormed st) → T (grantsFine grants) → (readAnswer batch grants st ≡ answer 0 (length batch)) ↔ Cut g batch
+  -- what is accepted has its length for a place
+  pub accepted-at : readAnswer batch grants st .reason ≡ 0 → readAnswer batch grants st ≡ answer 0 (length batch)
+  unfolding pairedAnswer unless
+  accepted-at e =
+      let w = accepted-parts read-told e in
+      let same = read-batch (w .0) (w .1) in
+      let p = paired-accepted kept (batchAnswer g batch) .0 (rw same at e) in
+      same ∙ rw (p .1, batch-length g batch (p .1), true-of kept (p .0))
+
+  -- it is accepted, with its length for a place, exactly if it is permitted
+  pub accepted-iff : T (wellFormed st) → T (grantsFine grants) → (readAnswer batch grants st ≡ answer 0 (length batch)) ↔ Permitted g st batch
   accepted-iff s l =
-      let e = read-batch s l in
-      let all = batch-permitted g batch in (
-        λ a. all .0 (ap (λ (x : Answer). x .reason) (sym e ∙ a)),
-        λ c. e ∙ rw (all .1 c, batch-length g batch (all .1 c)),
+      let e = read-batch s l in (
+        λ a. paired-permitted .0 (ap (λ (x : Answer). x .reason) (sym e ∙ a)),
+        λ p. accepted-at (ap (λ (x : Answer). x .reason) e ∙ paired-permitted .1 p),
       )
 
   -- the table of reasons and the answer agree

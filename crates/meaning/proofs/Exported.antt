@@ -1,10 +1,10 @@
 -- What the calls on bytes leave is, as words, what the calls on words leave.
 -- Assumes nothing.
 use mathlib.Core.Path.{_≡_, refl, ap, ap₂, _∙_}
-use mathlib.Core.Logic.{_↔_}
+use mathlib.Core.Logic.{_↔_, _≢_}
 use mathlib.Core.Bool.{Bool, true, false, _&&_}
 use mathlib.Core.List.{List, [], _∷_, _++_}
-use Prim.Native.Nat.{ℕ, zero, suc, _+_, _*_, _/_, _<_}
+use Prim.Native.Nat.{ℕ, zero, suc, _+_, _*_, _/_, _≤_, _<_}
 use native.Mathlib.Omega.{arith}
 use lib.Dec.{T}
 use lib.ListN.{length, drop, set}
@@ -86,8 +86,8 @@ words-over ws bs a =
 -- ---- the calls
 
 -- 13 comes from no call on words
-pub read-below-13 : (a b c : List ℕ) → readAnswer a b c .reason < 13
-read-below-13 a b c = omega (arith, read-range a b c (read-told a b c))
+pub read-not-13 : (a b c : List ℕ) → (readAnswer a b c .reason ≢ 13) × (readAnswer a b c .reason ≤ 14)
+read-not-13 a b c = read-range a b c (read-told a b c)
 
 pub write-below-13 : (a b : List ℕ) (room : ℕ) → writeAnswer a b room .reason < 13
 write-below-13 a b room = omega (arith, write-range a b room (write-told a b room))
@@ -101,7 +101,7 @@ provided-range false a l = omega arith
 
 pub read-call-range : (a b c : List ℕ) → exportedRead a b c .reason < 256
 unfolding exportedRead
-read-call-range a b c = provided-range (every wordBufferFine (a ∷ b ∷ c ∷ [])) _ (omega (arith, read-below-13 (wordsOf a) (wordsOf b) (wordsOf c)))
+read-call-range a b c = provided-range (every wordBufferFine (a ∷ b ∷ c ∷ [])) _ (omega (arith, read-not-13 (wordsOf a) (wordsOf b) (wordsOf c) .1))
 
 pub write-call-range : (a b c : List ℕ) → exportedWrite a b c .reason < 256
 unfolding exportedWrite
@@ -114,7 +114,7 @@ list-call-range a c = provided-range (wordBufferFine a && bufferFine c) _ (omega
 -- 13 is given exactly of buffers that are not fine
 pub read-13-exactly : (a b c : List ℕ) → (exportedRead a b c .reason ≡ 13) ↔ (¬ T (every wordBufferFine (a ∷ b ∷ c ∷ [])))
 unfolding exportedRead
-read-13-exactly a b c = provided-first (every wordBufferFine (a ∷ b ∷ c ∷ [])) 13 _ (λ e. omega (arith, read-below-13 (wordsOf a) (wordsOf b) (wordsOf c)))
+read-13-exactly a b c = provided-first (every wordBufferFine (a ∷ b ∷ c ∷ [])) 13 _ (read-not-13 (wordsOf a) (wordsOf b) (wordsOf c) .0)
 
 pub write-13-exactly : (a b c : List ℕ) → (exportedWrite a b c .reason ≡ 13) ↔ (¬ T (every wordBufferFine (a ∷ b ∷ c ∷ [])))
 unfolding exportedWrite

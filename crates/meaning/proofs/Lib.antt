@@ -12,6 +12,7 @@ pub mod Writing
 pub mod States
 pub mod EachWrite
 pub mod Stretches
+pub mod Pairs
 pub mod Round
 pub mod Exactly
 pub mod Fitter

@@ -8,12 +8,13 @@ use Prim.Native.Nat.{ℕ, _+_, _*_, _≤_, _<_}
 use native.Mathlib.Omega.{arith}
 use native.Mathlib.Nat.{mul-add}
 use native.Mathlib.Decide.{ℕ-discrete, decLt}
-use borrow.Author.Tests.{le-leb, lt-leb, leb-true, leb-false}
-use lib.Dec.{T, leb, ltb}
+use borrow.Author.Tests.{le-leb, lt-leb, leb-true, leb-false, eqb-true, eqb-false}
+use lib.Dec.{T, leb, ltb, eqb}
 use lib.ListN.{length, length-append}
 use Rattle.laws.specs.Lists.{join, from}
 use Rattle.laws.proofs.Lists.{length-join-append}
 use Rattle.laws.proofs.Tests.{true-of, false-of, holds-of, fails-of}
+use Rattle.meaning.specs.declared.Cell.{Cell}
 use Rattle.meaning.specs.declared.SubAddress.{SubAddress}
 use Rattle.meaning.specs.declared.VideoOffset.{VideoOffset}
 use Rattle.meaning.specs.declared.Found.{Found}
@@ -22,18 +23,19 @@ use Rattle.meaning.specs.declared.Answer.{Answer}
 use Rattle.meaning.specs.Registers.{cells, cell, Row, Section, of3D, ofVideo, targetGroup, stage, sample, overlay, scaler, sections}
 use Rattle.meaning.specs.Grants.{Terms, termsOf, grantsFine}
 use Rattle.meaning.specs.State.{valueAt, marked, one, countIn, markedCells, wellFormed, empty}
+use Rattle.meaning.specs.Pair.{targetCell, pairFine}
 use Rattle.meaning.specs.Answers.{answer, provided}
 use Rattle.meaning.specs.Reader.{readAnswer, readLeaves}
-use Rattle.meaning.specs.Writer.{written, countRows, lowestBad, exceptAt, writeAnswer}
+use Rattle.meaning.specs.Writer.{written, countRows, lowestBad, withPair, exceptAt, writeAnswer}
 use Rattle.meaning.specs.Text.{ascii}
 use Rattle.meaning.specs.Lister.{hex, decimal, line3D, lineVideo, linesOf, linesIn, linesAmong, cellLines, mostListed, listing, listAnswer}
-use Rattle.meaning.specs.Reasons.{CellFine, WriterGives, ListerGives}
+use Rattle.meaning.specs.Reasons.{CellFine, Writable, WriterGives, ListerGives}
 use Rattle.meaning.proofs.Table.{SectionAt, rowsIn, Sections, rowsAmong, table, all-rows}
-use Rattle.meaning.proofs.Writing.{AllFine, so-length, so-join, rows-few, count-add, count-3D, count-video}
+use Rattle.meaning.proofs.Writing.{so-length, so-join, rows-few, count-add, count-3D, count-video}
 use Rattle.meaning.proofs.Bytes.{exactly}
 use Rattle.meaning.proofs.States.{formed-iff, Sound, empty-well-formed}
 use Rattle.meaning.proofs.Exactly.{accepted-iff}
-use Rattle.meaning.proofs.Round.{Lowest, lowest-told, sound-takes, left-by}
+use Rattle.meaning.proofs.Round.{LowestIs, Lowest, lowest-told, sound-takes, left-by}
 
 -- ---- the writer
 
@@ -48,27 +50,61 @@ module _ (st grants : List ℕ) (room : ℕ) where
   abbrev by : Bool → Bool → Found → Bool → Answer
   by b c f d = provided b 1 (provided c 2 (exceptAt f (provided d 11 (answer 0 need))))
 
-  told-as : (b c : Bool) (f : Found) (d : Bool) → wellFormed st ≡ b → grantsFine grants ≡ c → Lowest g st 0 cells f → leb need room ≡ d
+  -- the lowest cell that is refused, for its value or for the pair
+  pub record RefusedAt (c : ℕ) : Type 0 where
+    pub to : c < cells
+    pub bad : ¬ Writable g st (cell c)
+    pub before : (d : ℕ) → d < c → Writable g st (cell d)
+
+  abbrev Refused : Found → Type 0
+  Refused (At c) = RefusedAt (c .0)
+  Refused Missing = (c : ℕ) → c < cells → Writable g st (cell c)
+
+  -- a bad pair, where no cell before it is refused
+  pair-at : pairFine g st ≡ false → ((d : ℕ) → d < 1 → CellFine g st (cell d)) → RefusedAt 1
+  pair-at e h =
+      record { to = omega arith; bad = λ w. fails-of e (w .pair refl); before = λ d k. record { value = h d k; pair = λ z. absurd (omega arith) } }
+
+  below-pair : pairFine g st ≡ false → (c : Cell) → LowestIs g st 0 cells (c .0) → (b : Bool) → eqb (c .0) 0 ≡ b → Refused (cond b (At c) (At targetCell))
+  below-pair e c low true z =
+      let zero = eqb-true (c .0) 0 z in
+      record { to = low .to; bad = λ w. low .bad (w .value); before = λ d k. absurd (omega arith) }
+  below-pair e c low false z = pair-at e (λ d k. low .before d (omega arith) (let n = eqb-false (c .0) 0 z in omega arith))
+
+  with-pair : (b : Bool) → pairFine g st ≡ b → (f : Found) → Lowest g st 0 cells f → Refused (withPair b f)
+  with-pair true e (At c) low =
+      record { to = low .to; bad = λ w. low .bad (w .value); before = λ d k. record { value = low .before d (omega arith) k; pair = λ z. holds-of e } }
+  with-pair true e Missing low = λ c k. record { value = low c (omega arith) k; pair = λ z. holds-of e }
+  with-pair false e (At c) low = below-pair e c low (eqb (c .0) 0) refl
+  with-pair false e Missing low = pair-at e (λ d k. low d (omega arith) (omega arith))
+
+  abbrev found : Found
+  found = withPair (pairFine g st) (lowestBad g st 0 cells)
+
+  found-told : Refused found
+  found-told = with-pair (pairFine g st) refl (lowestBad g st 0 cells) (lowest-told g st 0 cells)
+
+  told-as : (b c : Bool) (f : Found) (d : Bool) → wellFormed st ≡ b → grantsFine grants ≡ c → Refused f → leb need room ≡ d
       → WriterGives st grants room (by b c f d .reason) (by b c f d .place)
   told-as false c f d e h low l = WriterGives.bad-state (fails-of e)
   told-as true false f d e h low l = WriterGives.bad-grants (holds-of e) (fails-of h)
-  told-as true true (At c) d e h low l = WriterGives.not-writable (holds-of e) (holds-of h) (low .to) (low .bad) (λ x k. low .before x (omega arith) k)
-  told-as true true Missing true e h low l = WriterGives.done (holds-of e) (holds-of h) (λ c k. low c (omega arith) k) (leb-true need room l)
-  told-as true true Missing false e h low l = WriterGives.no-room (holds-of e) (holds-of h) (λ c k. low c (omega arith) k) (leb-false need room l)
+  told-as true true (At c) d e h low l = WriterGives.not-writable (holds-of e) (holds-of h) (low .to) (low .bad) (low .before)
+  told-as true true Missing true e h low l = WriterGives.done (holds-of e) (holds-of h) low (leb-true need room l)
+  told-as true true Missing false e h low l = WriterGives.no-room (holds-of e) (holds-of h) low (leb-false need room l)
 
   pub write-told : WriterGives st grants room (writeAnswer st grants room .reason) (writeAnswer st grants room .place)
   unfolding writeAnswer
-  write-told = told-as (wellFormed st) (grantsFine grants) (lowestBad g st 0 cells) (leb need room) refl refl (lowest-told g st 0 cells) refl
+  write-told = told-as (wellFormed st) (grantsFine grants) found (leb need room) refl refl found-told refl
 
-  lowest-at : (f : Found) (c : ℕ) → Lowest g st 0 cells f → c < cells → ¬ CellFine g st (cell c) → ((d : ℕ) → d < c → CellFine g st (cell d)) → f ≡ At (cell c)
+  lowest-at : (f : Found) (c : ℕ) → Refused f → c < cells → ¬ Writable g st (cell c) → ((d : ℕ) → d < c → Writable g st (cell d)) → f ≡ At (cell c)
   lowest-at (At d) c low l bad before =
       elim (ℕ-discrete (d .0) c) [
         | yes e ↦ ap (λ (n : ℕ). At (cell n)) e
-        | no e ↦ absurd (elim (decLt (d .0) c) [ yes k ↦ low .bad (before (d .0) k) | no k ↦ bad (low .before c (omega arith) (omega arith)) ])
+        | no e ↦ absurd (elim (decLt (d .0) c) [ yes k ↦ low .bad (before (d .0) k) | no k ↦ bad (low .before c (omega arith)) ])
       ]
-  lowest-at Missing c low l bad before = absurd (bad (low c (omega arith) l))
+  lowest-at Missing c low l bad before = absurd (bad (low c l))
 
-  lowest-none : (f : Found) → Lowest g st 0 cells f → AllFine g st → f ≡ Missing
+  lowest-none : (f : Found) → Refused f → ((c : ℕ) → c < cells → Writable g st (cell c)) → f ≡ Missing
   lowest-none (At d) low fine = absurd (low .bad (fine (d .0) (low .to)))
   lowest-none Missing low fine = refl
 
@@ -77,11 +113,11 @@ module _ (st grants : List ℕ) (room : ℕ) where
   write-answer (WriterGives.bad-state n) = rw (false-of (wellFormed st) n)
   write-answer (WriterGives.bad-grants s n) = rw (true-of (wellFormed st) s, false-of (grantsFine grants) n)
   write-answer (WriterGives.not-writable {c} s h l bad before) =
-      rw (true-of (wellFormed st) s, true-of (grantsFine grants) h, lowest-at (lowestBad g st 0 cells) c (lowest-told g st 0 cells) l bad before)
+      rw (true-of (wellFormed st) s, true-of (grantsFine grants) h, lowest-at found c found-told l bad before)
   write-answer (WriterGives.no-room s h fine l) =
-      rw (true-of (wellFormed st) s, true-of (grantsFine grants) h, lowest-none (lowestBad g st 0 cells) (lowest-told g st 0 cells) fine, lt-leb need room l)
+      rw (true-of (wellFormed st) s, true-of (grantsFine grants) h, lowest-none found found-told fine, lt-leb need room l)
   write-answer (WriterGives.done s h fine l) =
-      rw (true-of (wellFormed st) s, true-of (grantsFine grants) h, lowest-none (lowestBad g st 0 cells) (lowest-told g st 0 cells) fine, le-leb need room l)
+      rw (true-of (wellFormed st) s, true-of (grantsFine grants) h, lowest-none found found-told fine, le-leb need room l)
 
   pub write-range : {r p : ℕ} → WriterGives st grants room r p → r ≤ 12
   write-range (WriterGives.bad-state n) = omega arith
@@ -94,24 +130,30 @@ module _ (st grants : List ℕ) (room : ℕ) where
   pub write-exactly : (r p : ℕ) → (writeAnswer st grants room ≡ answer r p) ↔ WriterGives st grants room r p
   write-exactly = exactly (writeAnswer st grants room) (WriterGives st grants room) write-told (λ r p. write-answer)
 
-  -- what 0 tells: the grants are fine, the cells of the state hold what they may, and the place is the number of words
-  pub wrote : writeAnswer st grants room .reason ≡ 0 → T (grantsFine grants) × Sound g st × (writeAnswer st grants room .place ≡ need)
+  -- what 0 tells: the grants are fine, the cells of the state hold what they may, the place is the number of words, and the pair is fine
+  pub wrote : writeAnswer st grants room .reason ≡ 0
+      → T (grantsFine grants) × Sound g st × (writeAnswer st grants room .place ≡ need) × T (pairFine g st)
   wrote e = tells write-told e
     where
-      tells : {r p : ℕ} → WriterGives st grants room r p → r ≡ 0 → T (grantsFine grants) × Sound g st × (p ≡ need)
+      tells : {r p : ℕ} → WriterGives st grants room r p → r ≡ 0 → T (grantsFine grants) × Sound g st × (p ≡ need) × T (pairFine g st)
       tells (WriterGives.bad-state s) z = absurd (omega arith)
       tells (WriterGives.bad-grants s f) z = absurd (omega arith)
       tells (WriterGives.not-writable s f low bad before) z = absurd (omega arith)
       tells (WriterGives.no-room s f fine less) z = absurd (omega arith)
-      tells (WriterGives.done s f fine enough) z = (f, record { formed = formed-iff st .0 s; fine = fine }, refl)
+      tells (WriterGives.done s f fine enough) z = (
+        f,
+        record { formed = formed-iff st .0 s; fine = λ c l. fine c l .value },
+        refl,
+        fine 1 (omega arith) .pair refl,
+      )
 
 -- and back: read from the empty state under the same grants, the written words are accepted and leave the state
-pub written-back : (st grants : List ℕ) → T (grantsFine grants) → Sound (termsOf grants) st
+pub written-back : (st grants : List ℕ) → T (grantsFine grants) → Sound (termsOf grants) st → T (pairFine (termsOf grants) st)
     → (readAnswer (written st) grants empty ≡ answer 0 (length (written st))) × (readLeaves (written st) grants empty ≡ st)
-written-back st grants l s =
-    let takes = sound-takes (termsOf grants) st s in
-    let read = accepted-iff (written st) grants empty empty-well-formed l .1 (takes .cut) in
-    (read, left-by (written st) grants empty (ap (λ (x : Answer). x .reason) read) (takes .cut) ∙ takes .leaves)
+written-back st grants l s p =
+    let takes = sound-takes (termsOf grants) st s p in
+    let read = accepted-iff (written st) grants empty empty-well-formed l .1 (takes .permitted) in
+    (read, left-by (written st) grants empty (ap (λ (x : Answer). x .reason) read) (takes .permitted .cut) ∙ takes .leaves)
 
 -- ---- the lister
 

@@ -1,4 +1,4 @@
--- The place of a refusal is the length of the longest beginning of the batch with which some permitted batch starts.
+-- The place of a word's refusal is the length of the longest beginning of the batch with which some row of permitted packets starts.
 -- Assumes nothing.
 use mathlib.Core.Path.{_≡_, refl}
 use mathlib.Core.Logic.{_↔_, _≢_}
@@ -17,7 +17,7 @@ use Rattle.meaning.specs.declared.Answer.{Answer}
 use Rattle.meaning.specs.Words.{Word, count, offset, videoOffset}
 use Rattle.meaning.specs.Registers.{isFound, findVideo}
 use Rattle.meaning.specs.Grants.{Terms}
-use Rattle.meaning.specs.Batch.{offset3D, allowed, Begins, Longest}
+use Rattle.meaning.specs.Batch.{offset3D, allowed, Cut}
 use Rattle.meaning.specs.Positions.{kindOf, after, nextKind, nextLeft}
 use Rattle.meaning.specs.Reader.{runIn, reason3D, reasonVideo, headerReason, wordReason, judge, follow, run, batchAnswer}
 use Rattle.meaning.proofs.Verdicts.{unless-fine}
@@ -82,6 +82,17 @@ module _ (g : Terms) (S : Samples g) where
       let r = complete (after kind (s .word)) k (good-word g kind k (s .word) h (s .taken)) in
       record { more = s .word ∷ r .more; words = (s .small, r .words); left = left-cons g kind (suc k) (s .word) (r .more) .1 (s .taken, r .left) }
 
+-- some row of whole permitted packets starts with these words; what it goes on with is words of 32 bits
+pub record Started (g : Terms) (ws : List ℕ) : Type 0 where
+  pub more : List ℕ
+  pub words : All Word more
+  pub cut : Cut g (ws ++ more)
+
+pub record Stopped (g : Terms) (ws : List ℕ) (p : ℕ) : Type 0 where
+  pub within : p ≤ length ws
+  pub started : Started g (take p ws)
+  pub longest : (n : ℕ) → n ≤ length ws → Started g (take n ws) → n ≤ p
+
 -- ---- what an answer tells
 
 after-word : {g : Terms} {kind : Kind} {k : ℕ} (w : ℕ) {xs : List ℕ} → Done g kind k (w ∷ xs)
@@ -127,14 +138,14 @@ module _ (g : Terms) (S : Samples g) where
       stop-cons kind k w ws (judge g kind k w) (run g (nextKind kind k w) (nextLeft k w) ws) h refl
       (λ e. stop (nextKind kind k w) (nextLeft k w) ws (good-next g kind k w h e)) z
 
-  begins-done : {xs : List ℕ} → Begins g xs ↔ Done g Setting 0 xs
-  begins-done {xs} = (
+  started-done : {xs : List ℕ} → Started g xs ↔ Done g Setting 0 xs
+  started-done {xs} = (
     λ b. record { more = b .more; words = b .words; left = record { enough = omega arith; body = tt; rest = b .cut } },
     λ d. record { more = d .more; words = d .words; cut = d .left .rest },
   )
 
-  pub refusal-longest : (ws : List ℕ) → batchAnswer g ws .reason ≢ 0 → Longest g ws (batchAnswer g ws .place)
+  pub refusal-stops : (ws : List ℕ) → batchAnswer g ws .reason ≢ 0 → Stopped g ws (batchAnswer g ws .place)
   unfolding batchAnswer
-  refusal-longest ws z =
+  refusal-stops ws z =
       let s = stop Setting 0 ws tt z in
-      record { within = s .inside; begins = begins-done .1 (s .begun); longest = λ n l b. s .longest n l (begins-done .0 b) }
+      record { within = s .inside; started = started-done .1 (s .begun); longest = λ n l b. s .longest n l (started-done .0 b) }

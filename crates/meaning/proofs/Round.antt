@@ -21,11 +21,12 @@ use Rattle.meaning.specs.Registers.{cells, cell, registerAt}
 use Rattle.meaning.specs.declared.Answer.{Answer}
 use Rattle.meaning.specs.Grants.{Terms, termsOf}
 use Rattle.meaning.specs.Batch.{Packet, Cut}
-use Rattle.meaning.specs.State.{valueAt, markAt, wellFormed, empty, Write, applyAll, allWrites, Takes, Reached}
+use Rattle.meaning.specs.State.{valueAt, markAt, wellFormed, empty, Write, applyAll, allWrites}
+use Rattle.meaning.specs.Pair.{pairFine, Takes, Reached}
 use Rattle.meaning.specs.Positions.{writesOf}
 use Rattle.meaning.specs.Reader.{valueReason, readAnswer, readLeaves}
 use Rattle.meaning.specs.Writer.{wordsFor, packetsOf, written, writable, lowestBad}
-use Rattle.meaning.specs.Reasons.{CellFine}
+use Rattle.meaning.specs.Reasons.{CellFine, Writable}
 use Rattle.meaning.proofs.Verdicts.{fits-fine}
 use Rattle.meaning.proofs.Bytes.{settle-done}
 use Rattle.meaning.proofs.EachWrite.{each-write}
@@ -33,6 +34,7 @@ use Rattle.meaning.proofs.Writes.{writes-of-cut}
 use Rattle.meaning.proofs.Exactly.{read-told, accepted-parts, accepted-cut}
 use Rattle.meaning.proofs.Writing.{written-permitted, written-words, written-writes}
 use Rattle.meaning.proofs.States.{Formed, formed-iff, Sound, FineWrite, sound-writes, formed-writes, empty-sound, rebuilt}
+use Rattle.meaning.proofs.Pairs.{fine-kept, kept-fine, empty-unmarked}
 
 -- ---- there and back
 
@@ -43,27 +45,45 @@ packets-fine g =
     (λ c v l n s. record { low = l .0; fine = record { narrow = rw (l .1) n; fits = s } })
     (λ c v l n s. record { low = l .0; fine = record { narrow = rw (l .1) n; fits = s } })
 
+pub packets-low : (g : Terms) (ps : List (List ℕ)) → All (Packet g) ps → All (λ w. w .cell .0 < cells) (allWrites ps)
+packets-low g ps a = each-write g (λ (w : Write). w .cell .0 < cells) (λ (w : ℕ). Unit {0}) (λ c v l n s. l .0) (λ c v l n s. l .0) ps a (all-unit (join ps))
+
 pub reached-sound : (g : Terms) (st : List ℕ) → Reached g st → Sound g st
 reached-sound g st r =
     let t = r .takes in
-    let ps = t .cut .packets in
-    let w : All Word (join ps) = rw (t .cut .joined) (t .words) in
-    rw (t .leaves) at (sound-writes g empty (allWrites ps) (packets-fine g ps (t .cut .permitted) w) (empty-sound g))
+    let c = t .permitted .cut in
+    let ps = c .packets in
+    let w : All Word (join ps) = rw (c .joined) (t .words) in
+    rw (t .leaves) at (sound-writes g empty (allWrites ps) (packets-fine g ps (c .permitted) w) (empty-sound g))
 
-pub sound-takes : (g : Terms) (st : List ℕ) → Sound g st → Takes g (written st) st
+-- a batch that wrote neither cell of the pair left the target unmarked
+pub reached-pair : (g : Terms) (st : List ℕ) → Reached g st → T (pairFine g st)
+reached-pair g st r =
+    let t = r .takes in
+    let c = t .permitted .cut in
+    rw (t .leaves) at (kept-fine g empty (allWrites (c .packets)) (packets-low g (c .packets) (c .permitted)) empty-unmarked (t .permitted .pair))
+
+pub sound-takes : (g : Terms) (st : List ℕ) → Sound g st → T (pairFine g st) → Takes g (written st) st
 unfolding written wordsFor packetsOf
-sound-takes g st s =
+sound-takes g st s p =
+    let leaves : applyAll empty (allWrites (packetsOf st)) ≡ st = ap (applyAll empty) (written-writes g st (s .fine)) ∙ rebuilt st (s .formed) in
     record {
       words = written-words g st (s .fine);
-      cut = record { packets = packetsOf st; joined = refl; permitted = written-permitted g st (s .fine) };
-      leaves = ap (applyAll empty) (written-writes g st (s .fine)) ∙ rebuilt st (s .formed);
+      permitted = record {
+        cut = record { packets = packetsOf st; joined = refl; permitted = written-permitted g st (s .fine) };
+        pair = fine-kept g empty (allWrites (packetsOf st)) (rw leaves p);
+      };
+      leaves = leaves;
     }
 
 -- the states that some batch reaches from empty: well-formed, and each marked cell holds what it may
-pub reached-iff : (g : Terms) (st : List ℕ) → Reached g st ↔ (T (wellFormed st) × ((c : ℕ) → c < cells → CellFine g st (cell c)))
+pub reached-iff : (g : Terms) (st : List ℕ) → Reached g st ↔ (T (wellFormed st) × ((c : ℕ) → c < cells → Writable g st (cell c)))
 reached-iff g st = (
-  λ r. let s = reached-sound g st r in (formed-iff st .1 (s .formed), s .fine),
-  λ p. record { batch = written st; takes = sound-takes g st (record { formed = formed-iff st .0 (p .0); fine = p .1 }) },
+  λ r. let s = reached-sound g st r in (formed-iff st .1 (s .formed), λ c l. record { value = s .fine c l; pair = λ e. reached-pair g st r }),
+  λ p. record {
+    batch = written st;
+    takes = sound-takes g st (record { formed = formed-iff st .0 (p .0); fine = λ c l. p .1 c l .value }) (p .1 1 (omega arith) .pair refl);
+  },
 )
 
 -- ---- what the reader leaves
@@ -73,9 +93,6 @@ pub left-by : (batch grants st : List ℕ) → readAnswer batch grants st .reaso
     → readLeaves batch grants st ≡ applyAll st (allWrites (c .packets))
 unfolding readLeaves
 left-by batch grants st e c = settle-done (readAnswer batch grants st) _ st e ∙ ap (applyAll st) (writes-of-cut (termsOf grants) batch c)
-
-pub packets-low : (g : Terms) (ps : List (List ℕ)) → All (Packet g) ps → All (λ w. w .cell .0 < cells) (allWrites ps)
-packets-low g ps a = each-write g (λ (w : Write). w .cell .0 < cells) (λ (w : ℕ). Unit {0}) (λ c v l n s. l .0) (λ c v l n s. l .0) ps a (all-unit (join ps))
 
 left-formed : (batch st : List ℕ) (g : Terms) (a : Answer) → (a .reason ≡ 0 → Cut g batch) → (b : Bool) → eqb (a .reason) 0 ≡ b → Formed st
     → Formed (cond b (applyAll st (writesOf batch)) st)

@@ -17,10 +17,11 @@ use Rattle.meaning.specs.declared.SubAddress.{SubAddress}
 use Rattle.meaning.specs.declared.Found.{Found}
 use Rattle.meaning.specs.declared.Found.the-variants.{At, Missing}
 use Rattle.meaning.specs.declared.Kind.the-variants.{Setting, Parameter, Video}
+use Rattle.meaning.specs.declared.Memory.the-variants.{Either}
 use Rattle.meaning.specs.Words.{Word, bits, paraAdr, paraOS, paraType, paraSubType, subAddress, data24}
 use Rattle.meaning.specs.Registers.{any, scaled, noAddress, alphaSelect, memoryLocation, alphaConstants, levels, Register, Row, Section, of3D, ofVideo, targetGroup, stage, sample, overlay, scaler, sections, find, findAmong, find3D, findVideo, isFound, registerAmong, registerIn, registerAt}
 use Rattle.meaning.specs.Grants.{Terms, granted}
-use Rattle.meaning.specs.Batch.{Fits, SubTypes, allowedTypes, typeAllowed, allowed, Holdable}
+use Rattle.meaning.specs.Batch.{Fits, SubTypes, allowedTypes, typeAllowed, allowed, HoldableScaler}
 use Rattle.meaning.specs.Reader.{unless, valueReason, foundReason, wordReason}
 use Rattle.meaning.proofs.Verdicts.{fits-fine}
 use Rattle.meaning.proofs.Table.{Of, OwnIn, RowsVideo, own-registers, found-video-of}
@@ -99,14 +100,14 @@ held : (a : ℕ) → a % 16 ≡ 0 → a < 2 ^ 29 → bits 28 4 a * 16 ≡ a
 held a m l = omega arith
 
 -- an address that is granted to its role fits such a register
-pub address-fits : (g : Terms) (role m a : ℕ) → T (eqb (bits 28 4 m) 0) → a % 16 ≡ 0 → a < 2 ^ 29 → T (granted (g .grants) role a)
+pub address-fits : (g : Terms) (role m a : ℕ) → T (eqb (bits 28 4 m) 0) → a % 16 ≡ 0 → a < 2 ^ 29 → T (granted (g .grants) Either role a)
     → Fits g (record { width = 32; clear = m; values = memoryLocation; holds = scaled role }) a
 unfolding memoryLocation
 address-fits g role m a z e l t =
     let low : bits 1 0 a ≡ 0 = omega arith in
     record { clear = masked a m e l (eqb-yes z); value = yes-eqb low; granted = rw (held a e l) t }
 
-an-address : (g : Terms) (role m : ℕ) → T (eqb (bits 28 4 m) 0) → Holdable g role → Holds g (record { width = 32; clear = m; values = memoryLocation; holds = scaled role })
+an-address : (g : Terms) (role m : ℕ) → T (eqb (bits 28 4 m) 0) → HoldableScaler g role → Holds g (record { width = 32; clear = m; values = memoryLocation; holds = scaled role })
 an-address g role m z h =
     record { word = h .address; small = omega (arith, h .small); fits = address-fits g role m (h .address) z (h .multiple) (h .small) (h .allows) }
 
@@ -114,7 +115,7 @@ an-address g role m z h =
 nothing-held : (g : Terms) (m : ℕ) (f : ℕ → Bool) → T (f 0) → Holds g (record { width = 32; clear = m; values = f; holds = noAddress })
 nothing-held g m f t = record { word = 0; small = lit< tt; fits = record { clear = and-zero-l m; value = t; granted = tt } }
 
-scaler-rows : (g : Terms) (c o role : ℕ) → Holdable g role → All (λ r. Holds g (r .register)) (scaler c o role)
+scaler-rows : (g : Terms) (c o role : ℕ) → HoldableScaler g role → All (λ r. Holds g (r .register)) (scaler c o role)
 unfolding scaler
 scaler-rows g c o role h = (
   nothing-held g _ any tt,
@@ -143,7 +144,7 @@ in-place g [] a = tt
 in-place g (of3D G ∷ ss) a = (tt, in-place g ss a)
 in-place g (ofVideo rs ∷ ss) a = (a .0, in-place g ss (a .1))
 
-video-rows : (g : Terms) → Holdable g 2 → Holdable g 3 → All (Rows-hold g) sections
+video-rows : (g : Terms) → HoldableScaler g 2 → HoldableScaler g 3 → All (Rows-hold g) sections
 unfolding videoRows sections from overlay alphaSelect
 video-rows g h2 h3 =
     in-place g sections (
@@ -160,12 +161,12 @@ word-of : (g : Terms) (f : Found) → T (isFound f) → Of (λ c. Holds g (regis
 word-of g (At c) t h = (h .word, h .small, fits-fine g (registerAt c) (h .word) .0 (h .fits))
 word-of g Missing t h = absurd t
 
-a-video-word : (g : Terms) → Holdable g 2 → Holdable g 3 → (o : VideoOffset) → T (isFound (findVideo o)) → Sample g (Video o)
+a-video-word : (g : Terms) → HoldableScaler g 2 → HoldableScaler g 3 → (o : VideoOffset) → T (isFound (findVideo o)) → Sample g (Video o)
 unfolding wordReason findVideo
 a-video-word g h2 h3 o t =
     let rows = all-both _ _ _ (held-at g) sections own-registers (video-rows g h2 h3) in
     let w = word-of g (findVideo o) t (found-video-of (λ (c : Cell). Holds g (registerAt c)) o sections rows) in
     record { word = w .0; small = w .1; taken = w .2 }
 
-pub samples-of : (g : Terms) → Holdable g 2 → Holdable g 3 → Samples g
+pub samples-of : (g : Terms) → HoldableScaler g 2 → HoldableScaler g 3 → Samples g
 samples-of g h2 h3 = record { a-setting = a-setting g; a-parameter = a-parameter g; a-video-word = a-video-word g h2 h3 }

@@ -106,7 +106,7 @@ module _ (t u : ℕ) (lt : t < 256) (lu : u < 256) where
   unfolding paraSubType
   setting-subType = omega arith
 
-  setting-allowed : T (typeAllowed t u) → T (allowed (settingWord t u))
+  pub setting-allowed : T (typeAllowed t u) → T (allowed (settingWord t u))
   unfolding allowed paraAdr paraOS
   setting-allowed a =
       let zero-adr : paraAdr (settingWord t u) ≡ 0 = omega arith in
@@ -114,13 +114,13 @@ module _ (t u : ℕ) (lt : t < 256) (lu : u < 256) where
       yes-and (eqb (paraAdr (settingWord t u)) 0) _ (yes-eqb zero-adr)
       (yes-and (eqb (paraOS (settingWord t u)) 0) _ (yes-eqb zero-os) (rw (setting-type, setting-subType) a))
 
-  parameter-named : (a : SubAddress) (v : ℕ) → a .0 < 256 → v < 2 ^ 24 → named (settingWord t u) (a .0 * 2 ^ 24 + v) ≡ find3D t u a
+  pub parameter-named : (a : SubAddress) (v : ℕ) → a .0 < 256 → v < 2 ^ 24 → named (settingWord t u) (a .0 * 2 ^ 24 + v) ≡ find3D t u a
   unfolding subAddress sub
   parameter-named a v la lv =
       let name : subAddress (a .0 * 2 ^ 24 + v) ≡ a = ap sub (omega arith) in
       rw (setting-type, setting-subType, name)
 
-parameter-data : (n v : ℕ) → v < 2 ^ 24 → data24 (n * 2 ^ 24 + v) ≡ v
+pub parameter-data : (n v : ℕ) → v < 2 ^ 24 → data24 (n * 2 ^ 24 + v) ≡ v
 unfolding data24
 parameter-data n v l = omega arith
 
@@ -144,7 +144,7 @@ unfolding countRows
 rows-few chosen [] = omega arith
 rows-few chosen (r ∷ rs) = omega (arith, one-few (chosen (r .cell)), rows-few chosen rs)
 
-all-writes-append : (ps qs : List (List ℕ)) → allWrites (ps ++ qs) ≡ allWrites ps ++ allWrites qs
+pub all-writes-append : (ps qs : List (List ℕ)) → allWrites (ps ++ qs) ≡ allWrites ps ++ allWrites qs
 unfolding allWrites
 all-writes-append [] qs = refl
 all-writes-append (p ∷ ps) qs =

@@ -52,13 +52,17 @@ endsInside = 10
 abbrev pub noRoom : ℕ
 noRoom = 11
 
--- Y12 "writer: a marked cell has a value that 7, 8 or 9 would refuse, or a 3D value not below 2^24"
+-- Y12 "writer: a marked cell has a value that 7, 8 or 9 would refuse, or a 3D value not below 2^24", Y12 "or it is cell 1 and the pair is not fine"
 abbrev pub notWritable : ℕ
 notWritable = 12
 
 -- Y13 "C calls and programs alone: a buffer has more than 65,536 bytes, or a buffer of words has a length that is no multiple of 4"
 abbrev pub badBuffer : ℕ
 badBuffer = 13
+
+-- Y14 "the batch does not keep the pair"
+abbrev pub badPair : ℕ
+badPair = 14
 
 -- Y19 "listing reader: the text is no listing"
 abbrev pub notListing : ℕ

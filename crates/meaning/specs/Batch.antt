@@ -1,30 +1,31 @@
--- Permitted packets and batches, said of the words alone; a cut; what begins a permitted batch.
+-- Permitted packets, said of the words alone; a cut; addresses that registers can hold.
 -- Assumes nothing.
 use mathlib.Core.Path.{_≡_}
 use mathlib.Core.Bool.{Bool, true, _&&_}
-use mathlib.Core.List.{List, [], _∷_, _++_}
+use mathlib.Core.List.{List, [], _∷_}
 use Prim.Native.Nat.{ℕ, _%_, _≤_, _<_, _^_}
 use lib.Dec.{T, eqb}
-use lib.ListN.{length, take}
+use lib.ListN.{length}
 use lib.Bits.{bitAnd}
 use Rattle.laws.specs.Lists.{All, some, join}
 use Rattle.laws.specs.Tests.{within}
 use Rattle.meaning.specs.declared.VideoOffset.{VideoOffset}
+use Rattle.meaning.specs.declared.Memory.the-variants.{Either}
 use Rattle.meaning.specs.declared.Found.{Found}
 use Rattle.meaning.specs.declared.Found.the-variants.{At, Missing}
-use Rattle.meaning.specs.Words.{Word, count, offset, videoOffset, following, paraAdr, paraOS, paraType, paraSubType, subAddress, data24}
+use Rattle.meaning.specs.Words.{count, offset, videoOffset, following, paraAdr, paraOS, paraType, paraSubType, subAddress, data24}
 use Rattle.meaning.specs.Registers.{Content, nothing, address, Register, find3D, findVideo, registerAt}
 use Rattle.meaning.specs.Grants.{Terms, granted}
 
 -- ---- a value in a register
 
--- B12 "holds no address that is not granted"
+-- B12 "holds no address that is not granted, in whichever memory"
 abbrev pub reaches : Terms → Content → Bool
 reaches g nothing = true
-reaches g (address role a) = granted (g .grants) role a
+reaches g (address role a) = granted (g .grants) Either role a
 
 -- B12 "A value may stand in a register if it has no bit set that must be clear, keeps the value rule, and holds no address that is not
--- granted."
+-- granted, in whichever memory."
 pub record Fits (g : Terms) (r : Register) (v : ℕ) : Type 0 where
   pub clear : bitAnd v (r .clear) ≡ 0
   pub value : T (r .values v)
@@ -102,30 +103,27 @@ pub data Packet (g : Terms) : List ℕ → Type 0 where
   packet3D : {h s : ℕ} {ps : List ℕ} → Packet3D g h s ps → Packet g (h ∷ s ∷ ps)
   packetVideo : {h : ℕ} {vs : List ℕ} → PacketVideo g h vs → Packet g (h ∷ vs)
 
--- ---- batches
+-- ---- rows of packets
 
--- B14 "A batch is permitted if it is a row of whole permitted packets.": a way to cut the words into them. B15 "The batch of no words is
--- permitted.", as no packets
+-- B14 "a row of whole permitted packets": a way to cut the words into them. The batch of no words is no packets
 pub record Cut (g : Terms) (ws : List ℕ) : Type 0 where
   pub packets : List (List ℕ)
   pub joined : join packets ≡ ws
   pub permitted : All (Packet g) packets
 
--- D3 "some permitted batch begins with" these words; what it goes on with is words of 32 bits
-pub record Begins (g : Terms) (ws : List ℕ) : Type 0 where
-  pub more : List ℕ
-  pub words : All Word more
-  pub cut : Cut g (ws ++ more)
+-- ---- addresses
 
--- p is D3 "the length of the longest beginning of the batch that some permitted batch begins with"
-pub record Longest (g : Terms) (ws : List ℕ) (p : ℕ) : Type 0 where
-  pub within : p ≤ length ws
-  pub begins : Begins g (take p ws)
-  pub longest : (n : ℕ) → n ≤ length ws → Begins g (take n ws) → n ≤ p
-
--- the role, D3 "has a granted address that its registers can hold": R22 "a multiple of 16 below 2^29"
-pub record Holdable (g : Terms) (role : ℕ) : Type 0 where
+-- the role, D3 "has a granted address that its registers can hold": a multiple of a unit below a limit, in whichever memory
+pub record Holdable (g : Terms) (role unit limit : ℕ) : Type 0 where
   pub address : ℕ
-  pub multiple : address % 16 ≡ 0
-  pub small : address < 2 ^ 29
-  pub allows : T (granted (g .grants) role address)
+  pub multiple : address % unit ≡ 0
+  pub small : address < limit
+  pub allows : T (granted (g .grants) Either role address)
+
+-- R2 "the data × 256": of 24 bits
+abbrev pub HoldableTarget : Terms → Type 0
+HoldableTarget g = Holdable g 1 256 (2 ^ 32)
+
+-- R22 "a multiple of 16 below 2^29"
+abbrev pub HoldableScaler : Terms → ℕ → Type 0
+HoldableScaler g role = Holdable g role 16 (2 ^ 29)

@@ -1,4 +1,5 @@
--- Cases K1 to K12 as one table; batches for likely slips; K24 to K29, for reader and writer; grant lists; the 39 permitted format bytes.
+-- Cases K1 to K12 as one table; batches for likely slips; K24 to K29, for reader and writer; K30 to K41, the pair; grant lists; the 39
+-- permitted format bytes.
 -- Assumes nothing.
 use mathlib.Core.List.{List, [], _∷_, _++_, map}
 use Prim.Native.Nat.{ℕ, _+_, _*_}
@@ -20,9 +21,13 @@ pub record Case : Type 0 where
   pub gives : Answer
   pub leaves : List ℕ
 
+-- a state with a value in one cell more
+unfoldable pub with : List ℕ → ℕ → ℕ → List ℕ
+with st c v = set (set st c v) (cells + c) 1
+
 -- the empty state but for one cell
 unfoldable pub holding : ℕ → ℕ → List ℕ
-holding c v = set (set empty c v) (cells + c) 1
+holding c v = with empty c v
 
 -- a setting and a word are accepted, and the cell then holds the value
 abbrev pub accepted : List ℕ → ℕ → ℕ → ℕ → ℕ → Case
@@ -32,9 +37,13 @@ accepted grants s w c v = record { batch = 0x0002043C ∷ s ∷ w ∷ []; grants
 abbrev pub refused : List ℕ → ℕ → ℕ → ℕ → Case
 refused grants s w r = record { batch = 0x0002043C ∷ s ∷ w ∷ []; grants = grants; gives = answer r 2; leaves = empty }
 
--- K1 "role 1, start 00100000h, length 00080000h": the grant of K1 and K2, with its reach
+-- K1 "role 1, start 00100000h, length 00080000h": that grant with a reach, in a memory
+abbrev pub grantIn : ℕ → ℕ → List ℕ
+grantIn m reach = 1 ∷ 0x00100000 ∷ 0x00080000 ∷ reach ∷ m ∷ []
+
+-- the grant of K1 and K2, with its reach
 abbrev pub grant : ℕ → List ℕ
-grant reach = 1 ∷ 0x00100000 ∷ 0x00080000 ∷ reach ∷ []
+grant reach = grantIn 0 reach
 
 -- the setting of K1 to K8
 abbrev pub type01 : ℕ
@@ -51,7 +60,7 @@ stage3 = 0x03020000
 -- K1 to K12, a line each: setting, word, grants, answer
 unfoldable pub cases : List Case
 cases =
-    -- K1 "00010000 | 50001000 | role 1, start 00100000h, length 00080000h, reach 00080000h | accepted, cell 1"
+    -- K1 "00010000 | 50001000 | role 1, start 00100000h, length 00080000h, reach 00080000h, memory 0 | accepted, cell 1"
     accepted (grant 0x00080000) type01 0x50001000 1 0x001000
     -- K2 "00010000 | 50001000 | the same with reach 00080001h | 9 at 2"
     ∷ refused (grant 0x00080001) type01 0x50001000 9
@@ -81,7 +90,7 @@ cases =
 unfoldable pub slips : List Case
 slips =
     -- E2 "The address is tested and address + reach is not, or that sum wraps.": it is 2^32 + 1 here, past the end of memory
-    refused (1 ∷ 0xFFFFFF00 ∷ 0x100 ∷ 0x101 ∷ []) type01 0x50FFFFFF 9
+    refused (1 ∷ 0xFFFFFF00 ∷ 0x100 ∷ 0x101 ∷ 0 ∷ []) type01 0x50FFFFFF 9
     -- a 3D packet of 114 words, K18 "0072043C | 4 at 0",
     ∷ record { batch = 0x0072043C ∷ []; grants = []; gives = answer 4 0; leaves = empty }
     -- and a run that leaves the video registers, K21 "000823E4 | 4 at 0"
@@ -96,9 +105,13 @@ slips =
     ∷ record { batch = 0x0003043C ∷ type01 ∷ 0x3F000800 ∷ []; grants = []; gives = answer 7 2; leaves = empty }
     ∷ []
 
--- what a case says of the definitions
+-- what a case says of the definitions, from a state
+abbrev pub HoldsFrom : List ℕ → Case → Type 0
+HoldsFrom st c = (readAnswer (c .batch) (c .grants) st ≡ c .gives) × (readLeaves (c .batch) (c .grants) st ≡ c .leaves)
+
+-- and from the empty one
 abbrev pub Holds : Case → Type 0
-Holds c = (readAnswer (c .batch) (c .grants) empty ≡ c .gives) × (readLeaves (c .batch) (c .grants) empty ≡ c .leaves)
+Holds c = HoldsFrom empty c
 
 -- the shrinking filters, K24 to K29: words of a sample's filters that are refused,
 unfoldable pub filtersRefused : List ℕ
@@ -146,25 +159,91 @@ BothTake w =
     × (writeAnswer (holdingFilters w) [] mostWritten ≡ answer 0 3)
     × (written (holdingFilters w) ≡ 0x0002043C ∷ sample3 ∷ w ∷ [])
 
--- both sides of each rule of the grant list, G2 to G4: lists that keep the rules
+-- a case of the pair: the state that it is read from, and the case
+pub record PairCase : Type 0 where
+  pub entry : List ℕ
+  pub case : Case
+
+-- what it says
+abbrev pub HoldsPaired : PairCase → Type 0
+HoldsPaired p = HoldsFrom (p .entry) (p .case)
+
+-- 01.00.50 with the address 00100000h
+abbrev pub word50 : ℕ
+word50 = 0x50001000
+
+-- 01.00.51 with a memory
+abbrev pub word51 : ℕ → ℕ
+word51 m = 0x51000000 + m * 0x100000
+
+-- a state that is read from, grants, words of type 01, and the answer: the state that is left
+abbrev pub pairCase : List ℕ → List ℕ → List ℕ → Answer → List ℕ → PairCase
+pairCase st grants ws a left = record { entry = st; case = record { batch = ws; grants = grants; gives = a; leaves = left } }
+
+-- one word
+abbrev pub single : ℕ → List ℕ
+single w = 0x0002043C ∷ type01 ∷ w ∷ []
+
+-- cell 1 with that address
+abbrev pub addressed : List ℕ
+addressed = holding 1 0x001000
+
+-- and cell 2 with a memory
+abbrev pub addressedIn : ℕ → List ℕ
+addressedIn m = with addressed 2 (m * 0x100000)
+
+-- K30 to K41, a line each: state, grants, words, answer
+unfoldable pub pairs : List PairCase
+pairs =
+    -- K30 "empty | 1 | 50001000, 51100000 | accepted"
+    pairCase empty (grantIn 1 1) (0x0003043C ∷ type01 ∷ word50 ∷ word51 1 ∷ []) (answer 0 4) (addressedIn 1)
+    -- K31 "empty | 0 | 50001000, 51100000 | 14"
+    ∷ pairCase empty (grantIn 0 1) (0x0003043C ∷ type01 ∷ word50 ∷ word51 1 ∷ []) (answer 14 4) empty
+    -- K32 "empty | 1 | 50001000 | 14"
+    ∷ pairCase empty (grantIn 1 1) (single word50) (answer 14 3) empty
+    -- K33 "empty | none | 51200000 | 8 at 2"
+    ∷ pairCase empty [] (single (word51 2)) (answer 8 2) empty
+    -- K34 "empty | none | 51100000 | accepted"
+    ∷ pairCase empty [] (single (word51 1)) (answer 0 3) (holding 2 0x100000)
+    -- K35 "cell 1 holds 001000h | 0 | 51100000 | 14"
+    ∷ pairCase addressed (grantIn 0 1) (single (word51 1)) (answer 14 3) addressed
+    -- K36 "cell 1 holds 001000h, cell 2 holds 100000h | 0 | 50001000 | 14"
+    ∷ pairCase (addressedIn 1) (grantIn 0 1) (single word50) (answer 14 3) (addressedIn 1)
+    -- K37 "cell 1 holds 001000h, cell 2 holds 100000h | 1 | 50001000 | accepted"
+    ∷ pairCase (addressedIn 1) (grantIn 1 1) (single word50) (answer 0 3) (addressedIn 1)
+    -- K38 "cell 2 holds 200000h | 0 | 50001000 | 14"
+    ∷ pairCase (holding 2 0x200000) (grantIn 0 1) (single word50) (answer 14 3) (holding 2 0x200000)
+    -- K39 "cell 1 holds 1001000h | 0 | 51000000 | 14"
+    ∷ pairCase (holding 1 0x1001000) (grantIn 0 1) (single (word51 0)) (answer 14 3) (holding 1 0x1001000)
+    -- K40 "cell 1 holds 001000h | none | 3F400400 | accepted"
+    ∷ pairCase addressed [] (single 0x3F400400) (answer 0 3) (with addressed 0 0x400400)
+    -- K41 "empty | 1 | 50001000, and a header of 3 | 10"
+    ∷ pairCase empty (grantIn 1 1) (0x0003043C ∷ type01 ∷ word50 ∷ []) (answer 10 3) empty
+    ∷ []
+
+-- both sides of each rule of the grant list, G2 to G4 and G9: lists that keep the rules
 unfoldable pub keeping : List (List ℕ)
 keeping =
     []
-    ∷ (1 ∷ 0 ∷ 0 ∷ 1 ∷ [])
-    ∷ (3 ∷ 0 ∷ 0 ∷ 1 ∷ [])
-    ∷ (1 ∷ 0xFFFFFFFF ∷ 1 ∷ 1 ∷ [])
-    ∷ join (replicate 64 (1 ∷ 0 ∷ 0 ∷ 1 ∷ []))
+    ∷ (1 ∷ 0 ∷ 0 ∷ 1 ∷ 0 ∷ [])
+    ∷ (1 ∷ 0 ∷ 0 ∷ 1 ∷ 1 ∷ [])
+    ∷ (3 ∷ 0 ∷ 0 ∷ 1 ∷ 0 ∷ [])
+    ∷ (1 ∷ 0xFFFFFFFF ∷ 1 ∷ 1 ∷ 0 ∷ [])
+    ∷ join (replicate 64 (1 ∷ 0 ∷ 0 ∷ 1 ∷ 1 ∷ []))
     ∷ []
 
 -- and lists that break one
 unfoldable pub breaking : List (List ℕ)
 breaking =
-    (1 ∷ 0 ∷ 0 ∷ [])
-    ∷ (0 ∷ 0 ∷ 0 ∷ 1 ∷ [])
-    ∷ (4 ∷ 0 ∷ 0 ∷ 1 ∷ [])
-    ∷ (1 ∷ 0xFFFFFFFF ∷ 2 ∷ 1 ∷ [])
-    ∷ (1 ∷ 0 ∷ 0 ∷ 0 ∷ [])
-    ∷ join (replicate 65 (1 ∷ 0 ∷ 0 ∷ 1 ∷ []))
+    (1 ∷ 0 ∷ 0 ∷ 1 ∷ [])
+    ∷ (0 ∷ 0 ∷ 0 ∷ 1 ∷ 0 ∷ [])
+    ∷ (4 ∷ 0 ∷ 0 ∷ 1 ∷ 0 ∷ [])
+    ∷ (1 ∷ 0xFFFFFFFF ∷ 2 ∷ 1 ∷ 0 ∷ [])
+    ∷ (1 ∷ 0 ∷ 0 ∷ 0 ∷ 0 ∷ [])
+    ∷ (1 ∷ 0 ∷ 0 ∷ 1 ∷ 2 ∷ [])
+    ∷ (2 ∷ 0 ∷ 0 ∷ 1 ∷ 1 ∷ [])
+    ∷ (3 ∷ 0 ∷ 0 ∷ 1 ∷ 1 ∷ [])
+    ∷ join (replicate 65 (1 ∷ 0 ∷ 0 ∷ 1 ∷ 0 ∷ []))
     ∷ []
 
 -- a state with every cell marked

@@ -12,7 +12,7 @@ use Rattle.meaning.specs.Grants.{Terms, termsOf, grantsFine}
 use Rattle.meaning.specs.State.{wellFormed, empty, applyAll}
 use Rattle.meaning.specs.Positions.{writesOf}
 use Rattle.meaning.specs.Answers.{badState, badGrants, badOffset, notGranted, engineFull, success, answer, provided, settle}
-use Rattle.meaning.specs.Reader.{batchAnswer}
+use Rattle.meaning.specs.Reader.{batchAnswer, pairedAnswer}
 
 -- ---- words, where opening has answered 0
 
@@ -34,9 +34,10 @@ counted n = cond (leb n mostFed) (answer success n) (answer engineFull mostFed)
 unfoldable pub fedAnswer : Terms → List ℕ → Answer
 fedAnswer g ws = cond (wordRefused (batchAnswer g (take mostFed ws))) (batchAnswer g (take mostFed ws)) (counted (length ws))
 
--- M7 "Closing gives the reader's answer on the words fed"; after more words than it takes, M6 "They and closing are given the same answer."
-unfoldable pub closedAnswer : Terms → List ℕ → Answer
-closedAnswer g ws = cond (leb (length ws) mostFed) (batchAnswer g ws) (fedAnswer g ws)
+-- M7 "Closing gives the reader's answer on the words fed", by the state at opening; after more words than it takes, M6 "They and closing are
+-- given the same answer."
+unfoldable pub closedAnswer : Terms → List ℕ → List ℕ → Answer
+closedAnswer g st ws = cond (leb (length ws) mostFed) (pairedAnswer g st ws) (fedAnswer g ws)
 
 -- ---- the calls
 
@@ -53,17 +54,17 @@ fedBy (feeding ws) = ws
 fedBy (closing ws) = ws
 
 -- M1 "Else it answers 0 at 0.", and what the words give
-unfoldable pub callAnswer : Terms → Call → Answer
-callAnswer g opening = answer success 0
-callAnswer g (feeding ws) = fedAnswer g ws
-callAnswer g (closing ws) = closedAnswer g ws
+unfoldable pub callAnswer : Terms → List ℕ → Call → Answer
+callAnswer g st opening = answer success 0
+callAnswer g st (feeding ws) = fedAnswer g ws
+callAnswer g st (closing ws) = closedAnswer g st ws
 
 -- M1 "Opening gives 1, then 2, as the reader does.", M2 "every later call repeats that answer"; of a state and a grant list
 unfoldable pub engineAnswer : List ℕ → List ℕ → Call → Answer
-engineAnswer st grants c = provided (wellFormed st) badState (provided (grantsFine grants) badGrants (callAnswer (termsOf grants) c))
+engineAnswer st grants c = provided (wellFormed st) badState (provided (grantsFine grants) badGrants (callAnswer (termsOf grants) st c))
 
 -- M7 "hands back the state as it was at opening, changed as the batch says only if that answer is success", M2 "closing hands back the
 -- empty state"
 unfoldable pub engineLeaves : List ℕ → List ℕ → List ℕ → List ℕ
 engineLeaves st grants ws =
-    cond (wellFormed st && grantsFine grants) (settle (closedAnswer (termsOf grants) ws) (applyAll st (writesOf ws)) st) empty
+    cond (wellFormed st && grantsFine grants) (settle (closedAnswer (termsOf grants) st ws) (applyAll st (writesOf ws)) st) empty

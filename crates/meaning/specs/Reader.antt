@@ -1,5 +1,5 @@
 -- What the reader answers.
--- A3 "The reader takes the words from the front, and at each word the reasons by their numbers; 10 is last."
+-- A3 "The reader takes the words from the front, and at each word the reasons by their numbers; then 10, and 14 is last."
 -- Assumes nothing.
 use mathlib.Core.Bool.{Bool, true, false, _&&_, cond}
 use mathlib.Core.List.{List, [], _∷_}
@@ -18,8 +18,9 @@ use Rattle.meaning.specs.Registers.{Register, findVideo, isFound, regist
 use Rattle.meaning.specs.Grants.{Terms, termsOf, grantsFine}
 use Rattle.meaning.specs.Batch.{reaches, offset3D, most3D, allowed, named}
 use Rattle.meaning.specs.State.{wellFormed, applyAll}
+use Rattle.meaning.specs.Pair.{pairKept}
 use Rattle.meaning.specs.Positions.{nextKind, nextLeft, writesOf}
-use Rattle.meaning.specs.Answers.{badState, badGrants, badOffset, badCount, badSetting, noRegister, bitSet, badValue, notGranted, endsInside, success, answer, provided, settle}
+use Rattle.meaning.specs.Answers.{badState, badGrants, badOffset, badCount, badSetting, noRegister, bitSet, badValue, notGranted, endsInside, badPair, success, answer, provided, settle}
 
 -- ---- one word: its reason, 0 where nothing speaks against it
 
@@ -95,12 +96,20 @@ run g kind k (w ∷ ws) = follow (judge g kind k w) (run g (nextKind kind k w) (
 unfoldable pub batchAnswer : Terms → List ℕ → Answer
 batchAnswer g ws = run g Setting 0 ws
 
+-- Y14 "the batch does not keep the pair": in the place of success, and A3 "14 is last"
+abbrev pub paired : Bool → Answer → Answer
+paired b a = cond (eqb (a .reason) success) (answer (unless b badPair success) (a .place)) a
+
+-- what the words give, and then the pair, by S10 "from a state"
+unfoldable pub pairedAnswer : Terms → List ℕ → List ℕ → Answer
+pairedAnswer g st ws = paired (pairKept g st (writesOf ws)) (batchAnswer g ws)
+
 -- ---- the call: P1 "The reader takes a batch, a grant list and a state"
 
--- A2 "1 before 2, and 2 before all others", then what the words give
+-- A2 "1 before 2, and 2 before all others", then what the words and the pair give
 unfoldable pub readAnswer : List ℕ → List ℕ → List ℕ → Answer
 readAnswer batch grants st =
-    provided (wellFormed st) badState (provided (grantsFine grants) badGrants (batchAnswer (termsOf grants) batch))
+    provided (wellFormed st) badState (provided (grantsFine grants) badGrants (pairedAnswer (termsOf grants) st batch))
 
 -- P1 "either changes the state as the batch says or refuses the batch": the state after the call
 unfoldable pub readLeaves : List ℕ → List ℕ → List ℕ → List ℕ

@@ -19,7 +19,8 @@ use Rattle.meaning.specs.Registers.{cells, cell, address, isFound, findV
 use Rattle.meaning.specs.Grants.{Terms, termsOf, grantsFine}
 use Rattle.meaning.specs.Batch.{reaches, Fits, offset3D, most3D, allowed, named}
 use Rattle.meaning.specs.State.{stateWords, valueAt, markAt, wellFormed}
-use Rattle.meaning.specs.Positions.{positionAt, goes, carries}
+use Rattle.meaning.specs.Pair.{targetCell, lookedAt, pairFine, pairKept}
+use Rattle.meaning.specs.Positions.{positionAt, goes, carries, writesOf}
 use Rattle.meaning.specs.Engine.{mostFed, Call, opening, feeding, closing, fedBy}
 use Rattle.meaning.specs.Writer.{written}
 use Rattle.meaning.specs.Fitter.{LowestOf, NoneOf}
@@ -78,16 +79,19 @@ pub data ReaderGives (batch grants st : List ℕ) : ℕ → ℕ → Type 0 where
   -- 3 to 9, A3 "the words from the front": place p is Y3 "the header", Y4 "the header", Y5 "the setting", else Y6 "the word"
   at-word : {r p : ℕ} → T (wellFormed st) → T (grantsFine grants) → p < length batch → NoneBefore (termsOf grants) batch p
       → GivenAt (termsOf grants) batch p r → ReaderGives batch grants st r p
-  -- Y10 "the batch is over before a packet is | the length of the batch"; A3 "10 is last"
+  -- Y10 "the batch is over before a packet is | the length of the batch"; A3 "then 10"
   ends-inside : T (wellFormed st) → T (grantsFine grants) → NoneBefore (termsOf grants) batch (length batch)
       → 0 < positionAt batch (length batch) .left → ReaderGives batch grants st 10 (length batch)
+  -- Y14 "the batch does not keep the pair | the length of the batch"; A3 "14 is last"
+  bad-pair : T (wellFormed st) → T (grantsFine grants) → NoneBefore (termsOf grants) batch (length batch)
+      → positionAt batch (length batch) .left ≡ 0 → ¬ T (pairKept (termsOf grants) st (writesOf batch)) → ReaderGives batch grants st 14 (length batch)
   -- Y0 "all is done | reader: the length of the batch"
   accepted : T (wellFormed st) → T (grantsFine grants) → NoneBefore (termsOf grants) batch (length batch)
-      → positionAt batch (length batch) .left ≡ 0 → ReaderGives batch grants st 0 (length batch)
+      → positionAt batch (length batch) .left ≡ 0 → T (pairKept (termsOf grants) st (writesOf batch)) → ReaderGives batch grants st 0 (length batch)
 
 -- ---- the engine: reason r at place p, to a call
 
--- Y0 to Y10 and Y23 of the engine, for state and grants as they were handed in at opening
+-- Y0 to Y10, Y14 and Y23 of the engine, for state and grants as they were handed in at opening
 pub data EngineGives (st grants : List ℕ) : Call → ℕ → ℕ → Type 0 where
   -- M1 "Opening gives 1, then 2, as the reader does.", M2 "every later call repeats that answer"
   bad-state : {c : Call} → ¬ T (wellFormed st) → EngineGives st grants c 1 0
@@ -106,9 +110,14 @@ pub data EngineGives (st grants : List ℕ) : Call → ℕ → ℕ → Type 0 wh
   -- M7 "Closing gives the reader's answer on the words fed": Y10 "the batch is over before a packet is | the length of the batch",
   ends-inside : {ws : List ℕ} → T (wellFormed st) → T (grantsFine grants) → length ws ≤ mostFed
       → NoneBefore (termsOf grants) ws (length ws) → 0 < positionAt ws (length ws) .left → EngineGives st grants (closing ws) 10 (length ws)
+  -- Y14 "the batch does not keep the pair | the length of the batch",
+  bad-pair : {ws : List ℕ} → T (wellFormed st) → T (grantsFine grants) → length ws ≤ mostFed
+      → NoneBefore (termsOf grants) ws (length ws) → positionAt ws (length ws) .left ≡ 0 → ¬ T (pairKept (termsOf grants) st (writesOf ws))
+      → EngineGives st grants (closing ws) 14 (length ws)
   -- Y0 "all is done"
   accepted : {ws : List ℕ} → T (wellFormed st) → T (grantsFine grants) → length ws ≤ mostFed
-      → NoneBefore (termsOf grants) ws (length ws) → positionAt ws (length ws) .left ≡ 0 → EngineGives st grants (closing ws) 0 (length ws)
+      → NoneBefore (termsOf grants) ws (length ws) → positionAt ws (length ws) .left ≡ 0 → T (pairKept (termsOf grants) st (writesOf ws))
+      → EngineGives st grants (closing ws) 0 (length ws)
 
 -- ---- the writer, given room for so many words
 
@@ -121,18 +130,23 @@ pub record MayHold (g : Terms) (c : Cell) (v : ℕ) : Type 0 where
 abbrev pub CellFine : Terms → List ℕ → Cell → Type 0
 CellFine g st c = 0 < markAt st c → MayHold g c (valueAt st c)
 
+-- a cell is not what Y12 has: its value, and Y12 "or it is cell 1 and the pair is not fine"
+pub record Writable (g : Terms) (st : List ℕ) (c : Cell) : Type 0 where
+  pub value : CellFine g st c
+  pub pair : c .0 ≡ targetCell .0 → T (pairFine g st)
+
 -- Y1, Y2, Y12, Y11 and Y0 of the writer, for state and grants as they were handed in
 pub data WriterGives (st grants : List ℕ) (room : ℕ) : ℕ → ℕ → Type 0 where
   bad-state : ¬ T (wellFormed st) → WriterGives st grants room 1 0
   bad-grants : T (wellFormed st) → ¬ T (grantsFine grants) → WriterGives st grants room 2 0
   -- Y12 "the lowest such cell"
-  not-writable : {c : ℕ} → T (wellFormed st) → T (grantsFine grants) → c < cells → ¬ CellFine (termsOf grants) st (cell c)
-      → ((d : ℕ) → d < c → CellFine (termsOf grants) st (cell d)) → WriterGives st grants room 12 c
+  not-writable : {c : ℕ} → T (wellFormed st) → T (grantsFine grants) → c < cells → ¬ Writable (termsOf grants) st (cell c)
+      → ((d : ℕ) → d < c → Writable (termsOf grants) st (cell d)) → WriterGives st grants room 12 c
   -- Y11 "the output is shorter than they need | 0"; A4 "The writer gives 12 before 11"
-  no-room : T (wellFormed st) → T (grantsFine grants) → ((c : ℕ) → c < cells → CellFine (termsOf grants) st (cell c))
+  no-room : T (wellFormed st) → T (grantsFine grants) → ((c : ℕ) → c < cells → Writable (termsOf grants) st (cell c))
       → room < length (written st) → WriterGives st grants room 11 0
   -- Y0 "writer: the words written"
-  done : T (wellFormed st) → T (grantsFine grants) → ((c : ℕ) → c < cells → CellFine (termsOf grants) st (cell c))
+  done : T (wellFormed st) → T (grantsFine grants) → ((c : ℕ) → c < cells → Writable (termsOf grants) st (cell c))
       → length (written st) ≤ room → WriterGives st grants room 0 (length (written st))
 
 -- ---- the query, of the cell of a number
@@ -149,10 +163,10 @@ pub data QueryGives (st grants : List ℕ) (c : Cell) : ℕ → ℕ → Type 0 w
   bad-grants : T (wellFormed st) → ¬ T (grantsFine grants) → QueryGives st grants c 2 0
   -- Y0 "query: the number of the grant, or 64": of the grant that admits the address,
   admitted : {role a n : ℕ} → T (wellFormed st) → T (grantsFine grants) → HoldsAddress st c role a
-      → LowestOf (termsOf grants .grants) role a n → QueryGives st grants c 0 n
+      → LowestOf (termsOf grants .grants) (lookedAt st c) role a n → QueryGives st grants c 0 n
   -- and Q2 "No grant is told if there is no such cell, the cell is not marked, the register holds no address, or no grant admits it."
   nobody : T (wellFormed st) → T (grantsFine grants)
-      → ((role a : ℕ) → HoldsAddress st c role a → NoneOf (termsOf grants .grants) role a) → QueryGives st grants c 0 64
+      → ((role a : ℕ) → HoldsAddress st c role a → NoneOf (termsOf grants .grants) (lookedAt st c) role a) → QueryGives st grants c 0 64
 
 -- ---- the lister, given room for so many bytes
 

@@ -123,9 +123,9 @@ any v = true
 unfoldable pub alphaConstants : ℕ → Bool
 alphaConstants v = leb (bits 22 12 v) 1024 && leb (bits 10 0 v) 1024
 
--- R3 "bits 21:20 are 0"; R24 "By house choice, where the maker's guide allows more, location fields .. are 0"
+-- R3 "bits 21:20 are at most 1"; R24 "By house choice, where the maker's guide allows more, bits 21:20 of 01.00.51 are 0 or 1"
 unfoldable pub location : ℕ → Bool
-location v = eqb (bits 21 20 v) 0
+location v = leb (bits 21 20 v) 1
 
 -- R4 "bits 23:16 are a permitted format byte"
 unfoldable pub formatByte : ℕ → Bool

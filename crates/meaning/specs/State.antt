@@ -1,21 +1,19 @@
 -- The register state, and what the packets of a batch write into it.
 -- Assumes nothing.
-use mathlib.Core.Path.{_≡_}
 use mathlib.Core.Bool.{Bool, true, false, _&&_}
 use mathlib.Core.List.{List, [], _∷_, _++_}
 use Prim.Native.Nat.{ℕ, zero, suc, _+_, _*_}
 use lib.Dec.{leb, eqb}
 use lib.ListN.{length, getD, set, replicate}
-use Rattle.laws.specs.Lists.{All, every, from}
+use Rattle.laws.specs.Lists.{every, from}
 use Rattle.laws.specs.Tests.{implies}
 use Rattle.meaning.specs.declared.Cell.{Cell}
 use Rattle.meaning.specs.declared.VideoOffset.{VideoOffset}
 use Rattle.meaning.specs.declared.Found.{Found}
 use Rattle.meaning.specs.declared.Found.the-variants.{At, Missing}
-use Rattle.meaning.specs.Words.{Word, offset, videoOffset, following, data24}
+use Rattle.meaning.specs.Words.{offset, videoOffset, following, data24}
 use Rattle.meaning.specs.Registers.{cells, cell, findVideo}
-use Rattle.meaning.specs.Grants.{Terms}
-use Rattle.meaning.specs.Batch.{offset3D, named, Cut}
+use Rattle.meaning.specs.Batch.{offset3D, named}
 
 -- ---- states
 
@@ -120,16 +118,3 @@ packetWrites (h ∷ t) = bodyWrites (eqb (offset h) offset3D) (videoOffset h) t
 unfoldable pub allWrites : List (List ℕ) → List Write
 allWrites [] = []
 allWrites (p ∷ ps) = packetWrites p ++ allWrites ps
-
--- ---- states that a batch reaches
-
--- a permitted batch of 32-bit words that takes the empty state to st
-pub record Takes (g : Terms) (ws st : List ℕ) : Type 0 where
-  pub words : All Word ws
-  pub cut : Cut g ws
-  pub leaves : applyAll empty (allWrites (cut .packets)) ≡ st
-
--- D2 "some batch leads from the empty state to a state"
-pub record Reached (g : Terms) (st : List ℕ) : Type 0 where
-  pub batch : List ℕ
-  pub takes : Takes g batch st

@@ -18,6 +18,7 @@ use Rattle.meaning.specs.Registers.{cells, cell, Row, Section, of3D, ofV
 use Rattle.meaning.specs.Grants.{Terms, termsOf, grantsFine}
 use Rattle.meaning.specs.Batch.{offset3D}
 use Rattle.meaning.specs.State.{valueAt, markAt, marked, one, wellFormed}
+use Rattle.meaning.specs.Pair.{targetCell, pairFine}
 use Rattle.meaning.specs.Answers.{badState, badGrants, noRoom, notWritable, success, answer, provided}
 use Rattle.meaning.specs.Reader.{valueReason}
 
@@ -116,6 +117,12 @@ unfoldable pub lowestBad : Terms → List ℕ → ℕ → ℕ → Found
 lowestBad g st i zero = Missing
 lowestBad g st i (suc n) = let more = lowestBad g st (suc i) n in cond (writable g st (cell i)) more (At (cell i))
 
+-- Y12 "or it is cell 1 and the pair is not fine": cell 0 alone goes before it
+abbrev pub withPair : Bool → Found → Found
+withPair true f = f
+withPair false (At c) = cond (eqb (c .0) 0) (At c) (At targetCell)
+withPair false Missing = At targetCell
+
 -- ---- the call
 
 -- a bad cell is the answer; where there is none, what comes after
@@ -129,5 +136,5 @@ unfoldable pub writeAnswer : List ℕ → List ℕ → ℕ → Answer
 writeAnswer st grants room =
     provided (wellFormed st) badState
     (provided (grantsFine grants) badGrants
-    (exceptAt (lowestBad (termsOf grants) st 0 cells)
+    (exceptAt (withPair (pairFine (termsOf grants) st) (lowestBad (termsOf grants) st 0 cells))
     (provided (leb (length (written st)) room) noRoom (answer success (length (written st))))))

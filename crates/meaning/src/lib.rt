@@ -8,6 +8,11 @@ pub const FIRST_VIDEO: usize = 84;
 
 pub const END_VIDEO: usize = 101;
 
+// The pair: the cell of the target's address, and that of its location.
+pub const TARGET_CELL: usize = 1;
+
+pub const LOCATION_CELL: usize = 2;
+
 // The words of a state's values and marks, and of a whole state.
 pub const CELL_WORDS: usize = 2 * CELLS;
 
@@ -21,7 +26,9 @@ pub const MOST_LISTED: usize = 2568;
 // The most bytes that a buffer of a C call has.
 pub const MOST_BYTES: usize = 65536;
 
-// The most grants that a list has.
+// The words of a grant, and the most grants that a list has.
+pub const GRANT_WORDS: usize = 5;
+
 pub const MOST_GRANTS: usize = 64;
 
 // The most words that an engine takes.
@@ -54,6 +61,8 @@ pub const NO_ROOM: u32 = 11;
 
 pub const NOT_WRITABLE: u32 = 12;
 
+pub const BAD_PAIR: u32 = 14;
+
 pub const NOT_A_LISTING: u32 = 19;
 
 pub const ENGINE_FULL: u32 = 23;
@@ -77,6 +86,12 @@ pub type State = [u32; STATE_WORDS];
 pub enum Found {
     At(Cell),
     Missing,
+}
+
+// Where an address is asked about: in whichever memory, or in the one of a number.
+pub enum Memory {
+    Either,
+    Only(u32),
 }
 
 // Which grant admits an address: the one with a number, or none.

@@ -19,9 +19,9 @@ fn byte_of(word: u32, k: usize) -> u8 {
     ((word >> k % 4 * 8) % 256) as u8
 }
 
-fn bytes_of(desk: &Desk, list: usize) -> [u8; 1280] {
-    let mut bytes = [0u8; 1280];
-    for k in 0..1280usize {
+fn bytes_of(desk: &Desk, list: usize) -> [u8; 1408] {
+    let mut bytes = [0u8; 1408];
+    for k in 0..1408usize {
         bytes[k] = byte_of(at(desk, list, k / 4), k);
     }
     bytes

@@ -3,7 +3,7 @@
 // A list is words. Its length stands in its last word and counts bytes, so that some can be lent past the last whole word.
 // Every function takes any list and any index: past the room nothing is read and nothing is stored.
 
-pub(super) type Desk = [[u32; 320]; 6];
+pub(super) type Desk = [[u32; 352]; 7];
 
 // What is counted (tally says where): of the whole run, and of the family at work.
 pub(super) const COUNTS: usize = 0;
@@ -20,11 +20,14 @@ pub(super) const GRANTS: usize = 4;
 
 pub(super) const BATCH: usize = 5;
 
-const LENGTH: usize = 319;
+// The mark and the value of cell 2 in the states that are empty but for it and a cell.
+pub(super) const LOCATION: usize = 6;
+
+const LENGTH: usize = 351;
 
 pub(super) fn at(desk: &Desk, list: usize, i: usize) -> u32 {
-    if list < 6 {
-        if i < 320 {
+    if list < 7 {
+        if i < 352 {
             return desk[list][i];
         }
     }
@@ -32,8 +35,8 @@ pub(super) fn at(desk: &Desk, list: usize, i: usize) -> u32 {
 }
 
 pub(super) fn put(desk: &mut Desk, list: usize, i: usize, word: u32) {
-    if list < 6 {
-        if i < 320 {
+    if list < 7 {
+        if i < 352 {
             desk[list][i] = word;
         }
     }
@@ -53,13 +56,13 @@ pub(super) fn len(desk: &Desk, list: usize) -> usize {
 
 // Makes the list n bytes long: words past the old end are whatever the room has there.
 pub(super) fn cut(desk: &mut Desk, list: usize, n: usize) {
-    put(desk, list, LENGTH, (n % 1280) as u32);
+    put(desk, list, LENGTH, (n % 1408) as u32);
 }
 
 // Every word becomes 0, and the list n bytes long.
 pub(super) fn clear(desk: &mut Desk, list: usize, n: usize) {
-    if list < 6 {
-        desk[list] = [0u32; 320];
+    if list < 7 {
+        desk[list] = [0u32; 352];
     }
     cut(desk, list, n);
 }

@@ -3,7 +3,9 @@ use super::calls;
 use super::desk::BATCH;
 use super::desk::Desk;
 use super::desk::GRANTS;
+use super::desk::LOCATION;
 use super::desk::STATE;
+use super::desk::at;
 use super::desk::clear;
 use super::desk::dice;
 use super::desk::push;
@@ -20,7 +22,8 @@ use super::tally::hold;
 
 // The families, by the page's numbers. Those up to OVERLAPPING have 64 grants: one has the address, and the others start
 // behind it, or end a byte too soon for the reach, or have no room for it, or are another role's; or they are all these
-// in turn; or all behind the one have it too; or each has some of eight addresses.
+// in turn; or all behind the one have it too; or each has some of eight addresses. Those of EQUAL all have it, in two
+// memories.
 const ANOTHERS: usize = 3;
 
 const THE_ONE: usize = 4;
@@ -32,6 +35,8 @@ const FROM_ONE_ON: u32 = 5;
 const OVERLAPPING: u32 = 6;
 
 const MADE_UP: u32 = 11;
+
+const EQUAL: u32 = 13;
 
 // An address that each of the seven registers can hold; and by what a grant is, its start and its length, for a reach of
 // 100h.
@@ -56,7 +61,7 @@ fn address_cell(k: u32) -> usize {
 
 // What grant g is where grant m is the one.
 fn what_is(kind: u32, g: u32, m: u32) -> usize {
-    if g == m || g > m && kind == FROM_ONE_ON {
+    if g == m || g > m && kind == FROM_ONE_ON || kind == EQUAL {
         return THE_ONE;
     }
     if kind < IN_TURN {
@@ -66,16 +71,25 @@ fn what_is(kind: u32, g: u32, m: u32) -> usize {
     }
 }
 
-fn lay_grant(desk: &mut Desk, what: usize, role: usize) {
+// Whether grant g is in the other memory than grant m, as 1: those before it are, and behind it every second.
+fn is_apart(kind: u32, g: u32, m: u32) -> u32 {
+    match kind {
+        OVERLAPPING => g / 2 % 2,
+        EQUAL => if g < m { 1 } else { (g ^ m) % 2 },
+        _ => 0,
+    }
+}
+
+fn lay_grant(desk: &mut Desk, what: usize, role: usize, memory: u32) {
     if what < 5 {
         let whose = if what == ANOTHERS { role % 3 + 1 } else { role };
-        push_grant(desk, whose, STARTS[what], LENGTHS[what], 0x100);
+        push_grant(desk, whose, STARTS[what], LENGTHS[what], 0x100, memory);
     }
 }
 
 // Each has three of eight addresses. They start at each of the eight in turn, at every second, at every fourth, or all at
 // one, forwards or backwards, by m; and by m too the address is another of the eight.
-fn lay_step(desk: &mut Desk, g: u32, m: u32, role: usize) {
+fn lay_step(desk: &mut Desk, g: u32, m: u32, role: usize, memory: u32) {
     let step = (g << m % 4 ^ m / 4 % 2 * 7) % 8;
     push_grant(
         desk,
@@ -83,32 +97,66 @@ fn lay_step(desk: &mut Desk, g: u32, m: u32, role: usize) {
         HERE + step * 0x100 - m / 8 % 8 * 0x100,
         0x300,
         0x100,
+        memory,
     );
 }
 
-fn lay_64(desk: &mut Desk, kind: u32, m: u32, role: usize) {
+fn lay_64(desk: &mut Desk, kind: u32, m: u32, role: usize, memory: u32) {
     clear(desk, GRANTS, 0);
     for g in 0..64u32 {
+        let there = memory ^ is_apart(kind, g, m);
         if kind == OVERLAPPING {
-            lay_step(desk, g, m, role);
+            lay_step(desk, g, m, role, there);
         } else {
-            lay_grant(desk, what_is(kind, g, m), role);
+            lay_grant(desk, what_is(kind, g, m), role, there);
         }
     }
 }
 
-// The query of a cell, in a state that is empty but for it.
+// The location of the states that are asked from here on: not marked, or marked with 0 to 3. Answers what it names.
+fn lay_location(desk: &mut Desk, form: u32) -> u32 {
+    let named = match form % 5 {
+        0 | 1 => 0,
+        2 => 1,
+        3 => 2,
+        _ => 3,
+    };
+    clear(desk, LOCATION, 0);
+    push(desk, LOCATION, (form % 5 != 0) as u32);
+    push(desk, LOCATION, named << 20);
+    named
+}
+
+// The query of a cell, in a state that is empty but for it and the location.
 pub(super) fn ask(desk: &mut Desk, cell: usize, mark: u32, value: u32) -> u64 {
     clear(desk, STATE, 808);
+    let location_mark = at(desk, LOCATION, 0);
+    let location = at(desk, LOCATION, 1);
+    put_cell(desk, 2, location_mark, location);
     put_cell(desk, cell, mark, value);
     check(desk, cell)
+}
+
+// 64 grants have the target's address, and of those in the memory that the location names m is the first. No grant is
+// told where it names none.
+fn first_in_memory(desk: &mut Desk, k: u32) {
+    let m = k % 64;
+    let named = lay_location(desk, k / 64);
+    lay_64(desk, EQUAL, m, 1, named);
+    let told = ask(desk, 1, 1, HERE >> 8);
+    hold(
+        desk,
+        told,
+        if named < 2 { m as u64 * 256 } else { 64 * 256 },
+    );
 }
 
 // The one is grant m, and that is the answer.
 fn one_of_64(desk: &mut Desk, kind: u32, k: u32) {
     let cell = address_cell(k);
     let m = k / 7 % 64;
-    lay_64(desk, kind, m, role_in(cell));
+    let named = lay_location(desk, k / 448 % 3);
+    lay_64(desk, kind, m, role_in(cell), named);
     let told = ask(desk, cell, 1, some_value(cell, HERE, 0));
     if kind != OVERLAPPING {
         hold(desk, told, m as u64 * 256);
@@ -164,8 +212,15 @@ fn header_for(cell: usize) -> u32 {
     }
 }
 
+// The packet that writes the location, if it is marked, and the one that writes the address.
 fn lay_batch(desk: &mut Desk, cell: usize, value: u32) {
     clear(desk, BATCH, 0);
+    if at(desk, LOCATION, 0) == 1 {
+        let location = at(desk, LOCATION, 1);
+        push(desk, BATCH, 0x0002043c);
+        push(desk, BATCH, 0x00010000);
+        push(desk, BATCH, 0x51000000 | location);
+    }
     push(desk, BATCH, header_for(cell));
     if cell == 1 {
         push(desk, BATCH, 0x00010000);
@@ -178,11 +233,11 @@ fn lay_batch(desk: &mut Desk, cell: usize, value: u32) {
 }
 
 // What the query has to answer where the reader gives that reason: some grant where the write is accepted, and none where
-// its address is not granted.
+// its address is not granted, or not in that memory.
 fn due(reason: u64, told: u64) -> u64 {
     match reason {
         0 => told / 256 % 64 * 256,
-        9 => 64 * 256,
+        9 | 14 => 64 * 256,
         _ => reason,
     }
 }
@@ -194,6 +249,7 @@ fn beside_reader(desk: &mut Desk, k: u32) {
     }
     let cell = address_cell(k);
     let value = some_value(cell, HERE, dice(k, 1)) & open_bits(cell);
+    lay_location(desk, dice(k, 3) % 3);
     lay_batch(desk, cell, value);
     let reason = calls::read(desk) % 256;
     let told = ask(desk, cell, 1, value);
@@ -205,6 +261,7 @@ fn turn(desk: &mut Desk, kind: u32, k: u32) {
         0..=6 => one_of_64(desk, kind, k),
         7..=10 => damaged(desk, kind - 7, k),
         MADE_UP => made_up(desk, k),
+        EQUAL => first_in_memory(desk, k),
         _ => beside_reader(desk, k),
     }
 }

@@ -11,7 +11,7 @@ mod second;
 mod tally;
 
 fn main() {
-    let mut desk = [[0u32; 320]; 6];
+    let mut desk = [[0u32; 352]; 7];
     let mut bytes = io::large_buffer();
     let n = io::read_full(0, &mut bytes);
     page::run_page(&mut desk, &bytes[..n]);

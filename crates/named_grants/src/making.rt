@@ -7,6 +7,7 @@ use super::desk::at;
 use super::desk::clear;
 use super::desk::cut;
 use super::desk::dice;
+use super::desk::plus;
 use super::desk::push;
 use super::desk::put;
 use super::desk::sum;
@@ -19,11 +20,20 @@ pub(super) fn put_cell(desk: &mut Desk, cell: usize, mark: u32, value: u32) {
     }
 }
 
-pub(super) fn push_grant(desk: &mut Desk, role: usize, start: u32, length: u32, reach: u32) {
+// A grant, in one of two memories if it is the target's.
+pub(super) fn push_grant(
+    desk: &mut Desk,
+    role: usize,
+    start: u32,
+    length: u32,
+    reach: u32,
+    memory: u32,
+) {
     push(desk, GRANTS, (role % 4) as u32);
     push(desk, GRANTS, start);
     push(desk, GRANTS, length);
     push(desk, GRANTS, reach);
+    push(desk, GRANTS, if role == 1 { memory % 2 } else { 0 });
 }
 
 // At 0, across 2^29, near 2^32, or anywhere that a scaler's address reaches.
@@ -37,14 +47,14 @@ fn some_region(seed: u32) -> u32 {
 }
 
 // A value with an address of the region, its first one by 0. Of the bits that are no part of an address none is set, or
-// any: in cell 1 they take the address past 2^32.
+// any: in cell 1 they take the address past 2^32. In cell 2 bits 21:20 are mostly 0 or 1.
 pub(super) fn some_value(cell: usize, region: u32, seed: u32) -> u32 {
     let address = sum(region, seed / 16 % 24 * 0x80);
     let bits = if seed / 8 % 2 == 0 { 0 } else { dice(seed, 1) };
-    if cell == 1 {
-        address >> 8 | bits & 0xff000000
-    } else {
-        address & 0x1ffffff0 | bits & 0xe000000f
+    match cell {
+        1 => address >> 8 | bits & 0xff000000,
+        2 => seed / 16 % 10 / 3 << 20 | bits & 0xffcfffff,
+        _ => address & 0x1ffffff0 | bits & 0xe000000f,
     }
 }
 
@@ -69,7 +79,7 @@ fn some_grant(desk: &mut Desk, region: u32, seed: u32) {
     let start = sum(region, some_steps(dice(seed, 1)));
     let length = some_steps(dice(seed, 2));
     let reach = some_steps(dice(seed, 3)) / 2 | 1;
-    push_grant(desk, seed as usize % 3 + 1, start, length, reach);
+    push_grant(desk, seed as usize % 3 + 1, start, length, reach, seed >> 8);
 }
 
 pub(super) fn some_grants(desk: &mut Desk, n: u32, region: u32, seed: u32) {
@@ -86,11 +96,19 @@ pub(super) fn some_case(desk: &mut Desk, n: u32, seed: u32) {
     some_grants(desk, n, region, dice(seed, 2));
 }
 
-// Changes a word of a list. Across from a grant's start stands its length, and the other way round: the grant then ends at
-// 2^32, or a byte behind it.
+// Where a grant's length stands, by where its start does, and the other way round.
+fn across_from(i: usize) -> usize {
+    match i % 5 {
+        1 => plus(i, 1),
+        _ => std::num::wrapping_sub_usize(i, 1),
+    }
+}
+
+// Changes a word of a list. By what stands across from a start or a length, the grant then ends at 2^32, or a byte behind
+// it.
 fn change(desk: &mut Desk, list: usize, i: usize, way: u32) {
     let word = at(desk, list, i);
-    let across = at(desk, list, i ^ 3);
+    let across = at(desk, list, across_from(i));
     let changed = match way % 8 {
         0 => 0,
         1 => 1,
@@ -108,9 +126,9 @@ fn change(desk: &mut Desk, list: usize, i: usize, way: u32) {
 pub(super) fn damage(desk: &mut Desk, how: u32, i: u32) {
     match how {
         0 => change(desk, STATE, i as usize % 202, i / 202),
-        1 => change(desk, GRANTS, i as usize % 256, i / 256),
+        1 => change(desk, GRANTS, i as usize % 320, i / 320),
         2 => cut(desk, STATE, i as usize % 1024),
-        3 => cut(desk, GRANTS, i as usize % 1060),
+        3 => cut(desk, GRANTS, i as usize % 1320),
         _ => {}
     }
 }

@@ -1,10 +1,12 @@
-// The page. The first byte of a line says what it is for. The grants are g, calls with their answer are ?, and calls that
-// are made here ~; the name of a family is =, and its line is then told; a text to tell is : and counts of the whole run
-// to tell are #. A space stands before each number, which is decimal, or hex behind 0x. All other lines are passed over.
+// The page. The first byte of a line says what it is for. The grants are g, the location is l, calls with their answer are
+// ?, and calls that are made here ~; the name of a family is =, and its line is then told; a text to tell is : and counts
+// of the whole run to tell are #. A space stands before each number, which is decimal, or hex behind 0x. All other lines
+// are passed over.
 use super::desk::COUNTS;
 use super::desk::Desk;
 use super::desk::FAMILY;
 use super::desk::GRANTS;
+use super::desk::LOCATION;
 use super::desk::NUMBERS;
 use super::desk::at;
 use super::desk::clear;
@@ -112,7 +114,11 @@ fn take_line(desk: &mut Desk, page: &[u8], start: usize, end: usize) {
     if what == b':' || what == b'=' {
         say_part(page, plus(start, 1), end);
     }
-    let list = if what == b'g' { GRANTS } else { NUMBERS };
+    let list = match what {
+        b'g' => GRANTS,
+        b'l' => LOCATION,
+        _ => NUMBERS,
+    };
     take_numbers(desk, list, page, start, end);
     run_line(desk, what);
 }

@@ -29,9 +29,9 @@ fn state_is_well_formed(desk: &Desk) -> bool {
     len(desk, STATE) / 4 == 202
 }
 
-// A word of a grant: 0 is its role, 1 its start, 2 its length, 3 its reach.
+// A word of a grant: 0 is its role, 1 its start, 2 its length, 3 its reach, 4 its memory.
 fn grant_word(desk: &Desk, g: usize, word: usize) -> u64 {
-    at(desk, GRANTS, plus(g << 2, word)) as u64
+    at(desk, GRANTS, plus(plus(g << 2, g), word)) as u64
 }
 
 // The true sum, of numbers below 2^40.
@@ -43,19 +43,29 @@ fn end_of(desk: &Desk, g: usize) -> u64 {
     whole_sum(grant_word(desk, g, 1), grant_word(desk, g, 2))
 }
 
+// How many memories a role's grants may be in: the target's in two, a scaler's in one, and no other's in any.
+fn memories_of(role: u64) -> u64 {
+    match role {
+        1 => 2,
+        2 | 3 => 1,
+        _ => 0,
+    }
+}
+
 fn grant_keeps_rules(desk: &Desk, g: usize) -> bool {
-    let role = grant_word(desk, g, 0);
-    role != 0 && role < 4 && grant_word(desk, g, 3) != 0 && end_of(desk, g) <= 0x1_0000_0000
+    grant_word(desk, g, 4) < memories_of(grant_word(desk, g, 0))
+        && grant_word(desk, g, 3) != 0
+        && end_of(desk, g) <= 0x1_0000_0000
 }
 
 fn list_keeps_rules(desk: &Desk) -> bool {
     let words = len(desk, GRANTS) / 4;
-    for g in 0..words / 4 {
+    for g in 0..words / 5 {
         if !grant_keeps_rules(desk, g) {
             return false;
         }
     }
-    words % 4 == 0 && words <= 256
+    words % 5 == 0 && words <= 320
 }
 
 // The role whose address a cell's register holds, or 0. The scalers have seven registers each, from cell 87 on: the
@@ -80,16 +90,23 @@ fn address_in(desk: &Desk, cell: usize) -> u64 {
     }
 }
 
+// The grant is in the memory that cell 2 names, by two of its bits; a cell that is not marked has none set. Of a scaler's
+// address it is not asked.
+fn is_in_memory(desk: &Desk, g: usize, cell: usize) -> bool {
+    cell != 1 || grant_word(desk, g, 4) == at(desk, STATE, 2) as u64 / 0x100000 % 4
+}
+
 fn admits(desk: &Desk, g: usize, cell: usize) -> bool {
     let address = address_in(desk, cell);
     grant_word(desk, g, 0) == role_in(cell) as u64
+        && is_in_memory(desk, g, cell)
         && grant_word(desk, g, 1) <= address
         && whole_sum(address, grant_word(desk, g, 3)) <= end_of(desk, g)
 }
 
 // The lowest-numbered grant that admits the address in the cell, of those from one on; 64 if there is none.
 pub(super) fn lowest(desk: &Desk, cell: usize, from: usize) -> usize {
-    let n = len(desk, GRANTS) / 16;
+    let n = len(desk, GRANTS) / 20;
     let mut found = 64usize;
     for i in from..n {
         let g = plus(from, n - 1 - i);

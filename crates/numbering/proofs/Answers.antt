@@ -18,6 +18,7 @@ use Rattle.meaning.specs.Words.{wordsOf}
 use Rattle.meaning.specs.Registers.{cells, Content, nothing, address, registerAt}
 use Rattle.meaning.specs.Grants.{Terms, mostGrants, grantsOf, termsOf, grantsFine, which}
 use Rattle.meaning.specs.State.{valueAt, markAt, isMark, marked, wellFormed}
+use Rattle.meaning.specs.Pair.{lookedAt}
 use Rattle.meaning.specs.Answers.{badState, badGrants, success, answer, provided}
 use Rattle.meaning.specs.Query.{whichHeld, whichStored, whichAt, placeOf, queryAnswer}
 use Rattle.meaning.specs.Exported.{wordBufferFine, exportedWhichGrant}
@@ -51,22 +52,22 @@ module _ (g : Terms) (st : List ℕ) (c : Cell) where
   held-there h = there-iff .1 (h .there, h .marked)
 
   -- an address
-  pub which-held : (role a : ℕ) → HoldsAddress st c role a → whichAt g st c ≡ which (g .grants) role a
+  pub which-held : (role a : ℕ) → HoldsAddress st c role a → whichAt g st c ≡ which (g .grants) (lookedAt st c) role a
   unfolding whichAt
   which-held role a h = rw (true-of there (held-there h), h .held)
 
   -- none
-  pub which-none : ((role a : ℕ) → HoldsAddress st c role a → NoneOf (g .grants) role a) → whichAt g st c ≡ by.Nobody
+  pub which-none : ((role a : ℕ) → HoldsAddress st c role a → NoneOf (g .grants) (lookedAt st c) role a) → whichAt g st c ≡ by.Nobody
   unfolding whichAt
   which-none h = by-test there refl
     where
-      by-content : (t : T there) (k : Content) → registerAt c .holds (valueAt st c) ≡ k → whichHeld g k ≡ by.Nobody
+      by-content : (t : T there) (k : Content) → registerAt c .holds (valueAt st c) ≡ k → whichHeld g (lookedAt st c) k ≡ by.Nobody
       by-content t nothing e = refl
       by-content t (address role a) e =
           let is = there-iff .0 t in
-          none-iff (g .grants) role a .1 (h role a (record { there = is .0; marked = is .1; held = e }))
+          none-iff (g .grants) (lookedAt st c) role a .1 (h role a (record { there = is .0; marked = is .1; held = e }))
 
-      by-test : (b : Bool) → there ≡ b → cond b (whichStored g c (valueAt st c)) by.Nobody ≡ by.Nobody
+      by-test : (b : Bool) → there ≡ b → cond b (whichStored g (lookedAt st c) c (valueAt st c)) by.Nobody ≡ by.Nobody
       by-test true e = by-content (holds-of e) (registerAt c .holds (valueAt st c)) refl
       by-test false e = refl
 
@@ -101,17 +102,17 @@ module _ (st grants : List ℕ) (c : Cell) where
     abbrev Given : Which → Type 0
     Given x = QueryGives st grants c 0 (placeOf x)
 
-    by-which : (role a : ℕ) → HoldsAddress st c role a → (x : Which) → which (g .grants) role a ≡ x → Given x
-    by-which role a h (by.Grant n) e = admitted w f h (lowest-iff (g .grants) role a n .0 e)
-    by-which role a h by.Nobody e = nobody w f (λ role′ a′ k. let same = held-once g st c h k in rw (← same .0, ← same .1) (none-iff (g .grants) role a .0 e))
+    by-which : (role a : ℕ) → HoldsAddress st c role a → (x : Which) → which (g .grants) (lookedAt st c) role a ≡ x → Given x
+    by-which role a h (by.Grant n) e = admitted w f h (lowest-iff (g .grants) (lookedAt st c) role a n .0 e)
+    by-which role a h by.Nobody e = nobody w f (λ role′ a′ k. let same = held-once g st c h k in rw (← same .0, ← same .1) (none-iff (g .grants) (lookedAt st c) role a .0 e))
 
-    by-content : T (there g st c) → (k : Content) → registerAt c .holds (valueAt st c) ≡ k → Given (whichHeld g k)
+    by-content : T (there g st c) → (k : Content) → registerAt c .holds (valueAt st c) ≡ k → Given (whichHeld g (lookedAt st c) k)
     by-content t nothing e = nobody w f (λ role a h. absurd (some-address (sym e ∙ h .held)))
     by-content t (address role a) e =
         let is = there-iff g st c .0 t in
-        by-which role a (record { there = is .0; marked = is .1; held = e }) (which (g .grants) role a) refl
+        by-which role a (record { there = is .0; marked = is .1; held = e }) (which (g .grants) (lookedAt st c) role a) refl
 
-    by-there : (b : Bool) → there g st c ≡ b → Given (cond b (whichStored g c (valueAt st c)) by.Nobody)
+    by-there : (b : Bool) → there g st c ≡ b → Given (cond b (whichStored g (lookedAt st c) c (valueAt st c)) by.Nobody)
     by-there true e = by-content (holds-of e) (registerAt c .holds (valueAt st c)) refl
     by-there false e = nobody w f (λ role a h. absurd (fails-of e (held-there g st c h)))
 
@@ -139,7 +140,7 @@ module _ (st grants : List ℕ) (c : Cell) where
   unfolding queryAnswer
   query-given _ _ (bad-state n) = rw (false-of (wellFormed st) n)
   query-given _ _ (bad-grants w n) = rw (true-of (wellFormed st) w, false-of (grantsFine grants) n)
-  query-given _ _ (admitted {role} {a} {n} w f h l) = rw (true-of (wellFormed st) w, true-of (grantsFine grants) f, which-held g st c role a h, lowest-iff (g .grants) role a n .1 l)
+  query-given _ _ (admitted {role} {a} {n} w f h l) = rw (true-of (wellFormed st) w, true-of (grantsFine grants) f, which-held g st c role a h, lowest-iff (g .grants) (lookedAt st c) role a n .1 l)
   query-given _ _ (nobody w f h) = rw (true-of (wellFormed st) w, true-of (grantsFine grants) f, which-none g st c h)
 
   pub query-exactly : (r p : ℕ) → (queryAnswer st grants c ≡ answer r p) ↔ QueryGives st grants c r p

@@ -2,59 +2,53 @@
 -- Assumes nothing.
 use mathlib.Core.Path.{_≡_, refl, ap, _∙_}
 use mathlib.Core.List.{List, [], _∷_}
-use Prim.Native.Nat.{ℕ, suc, _+_, _/_, _%_, _^_, _≤_, _<_}
+use Prim.Native.Nat.{ℕ, suc, _+_, _/_, _%_, _≤_, _<_}
 use native.Mathlib.Omega.{arith}
 use lib.Dec.{T, leb, eqb, leb→le, eqb→eq}
 use lib.ListN.{length, getD, drop, length-drop}
 use mir.Facts.{and-yes}
 use Rattle.laws.specs.Lists.{every}
-use Rattle.laws.specs.Tests.{within}
-use Rattle.laws.proofs.Tests.{within-iff}
-use Rattle.laws.proofs.Rest.{rest4}
+use Rattle.laws.proofs.Rest.{rest5}
 use Rattle.meaning.specs.Grants.{Grant, grantsOf, mostGrants, grantFine, grantsFine}
 
--- the grant that the four words at a place are
+-- the grant that the five words at a place are
 abbrev pub grantAt : List ℕ → ℕ → Grant
-grantAt ws i = record { role = getD ws i 0; start = getD ws (i + 1) 0; length = getD ws (i + 2) 0; reach = getD ws (i + 3) 0 }
+grantAt ws i =
+    record { role = getD ws i 0; start = getD ws (i + 1) 0; length = getD ws (i + 2) 0; reach = getD ws (i + 3) 0; memory = getD ws (i + 4) 0 }
 
 -- it, by the words as they were read
-pub grant-read : (ws : List ℕ) (i role start long reach : ℕ) → role ≡ getD ws i 0 → start ≡ getD ws (i + 1) 0 → long ≡ getD ws (i + 2) 0 → reach ≡ getD ws (i + 3) 0
-    → record { role = role; start = start; length = long; reach = reach } ≡ grantAt ws i
-grant-read ws i role start long reach r s l h = rw (r, s, l, h)
+pub grant-read : (ws : List ℕ) (i role start long reach memory : ℕ) → role ≡ getD ws i 0 → start ≡ getD ws (i + 1) 0 → long ≡ getD ws (i + 2) 0
+    → reach ≡ getD ws (i + 3) 0 → memory ≡ getD ws (i + 4) 0
+    → record { role = role; start = start; length = long; reach = reach; memory = memory } ≡ grantAt ws i
+grant-read ws i role start long reach memory r s l h m = rw (r, s, l, h, m)
 
-pub grants-on : (ws : List ℕ) (i : ℕ) → i + 4 ≤ length ws → grantsOf (drop i ws) ≡ grantAt ws i ∷ grantsOf (drop (i + 4) ws)
-grants-on ws i h = ap grantsOf (rest4 ws i h)
+pub grants-on : (ws : List ℕ) (i : ℕ) → i + 5 ≤ length ws → grantsOf (drop i ws) ≡ grantAt ws i ∷ grantsOf (drop (i + 5) ws)
+grants-on ws i h = ap grantsOf (rest5 ws i h)
 
--- fewer than four words are no grant
-short : (ws : List ℕ) → length ws < 4 → grantsOf ws ≡ []
+-- fewer than five words are no grant
+short : (ws : List ℕ) → length ws < 5 → grantsOf ws ≡ []
 short [] h = refl
 short (r ∷ []) h = refl
 short (r ∷ s ∷ []) h = refl
 short (r ∷ s ∷ l ∷ []) h = refl
-short (r ∷ s ∷ l ∷ h′ ∷ ws) h = absurd (omega arith)
+short (r ∷ s ∷ l ∷ h′ ∷ []) h = refl
+short (r ∷ s ∷ l ∷ h′ ∷ m ∷ ws) h = absurd (omega arith)
 
-pub grants-end : (ws : List ℕ) (i : ℕ) → length ws < i + 4 → grantsOf (drop i ws) ≡ []
+pub grants-end : (ws : List ℕ) (i : ℕ) → length ws < i + 5 → grantsOf (drop i ws) ≡ []
 grants-end ws i h = short (drop i ws) (simp length-drop (omega arith))
 
-pub length-grants : (ws : List ℕ) → length (grantsOf ws) ≡ length ws / 4
+pub length-grants : (ws : List ℕ) → length (grantsOf ws) ≡ length ws / 5
 length-grants [] = refl
 length-grants (r ∷ []) = refl
 length-grants (r ∷ s ∷ []) = refl
 length-grants (r ∷ s ∷ l ∷ []) = refl
-length-grants (r ∷ s ∷ l ∷ h ∷ ws) = ap suc (length-grants ws) ∙ omega arith
+length-grants (r ∷ s ∷ l ∷ h ∷ []) = refl
+length-grants (r ∷ s ∷ l ∷ h ∷ m ∷ ws) = ap suc (length-grants ws) ∙ omega arith
 
--- what the rules of a list tell, and those of a grant
-pub fine-list : (ws : List ℕ) → T (grantsFine ws) → (length ws % 4 ≡ 0) × (length ws / 4 ≤ mostGrants) × T (every grantFine (grantsOf ws))
+-- what the rules of a list tell; those of a grant are grant-rules in meaning/proofs/Fitter
+pub fine-list : (ws : List ℕ) → T (grantsFine ws) → (length ws % 5 ≡ 0) × (length ws / 5 ≤ mostGrants) × T (every grantFine (grantsOf ws))
 unfolding grantsFine
 fine-list ws fine =
-    let p = and-yes (eqb (length ws % 4) 0) _ fine in
-    let q = and-yes (leb (length ws / 4) mostGrants) (every grantFine (grantsOf ws)) (p .1) in
-    (eqb→eq (length ws % 4) 0 (p .0), leb→le (length ws / 4) mostGrants (q .0), q .1)
-
-pub fine-grant : (g : Grant) → T (grantFine g) → (1 ≤ g .role) × (g .role ≤ 3) × (g .start + g .length ≤ 2 ^ 32) × (1 ≤ g .reach)
-unfolding grantFine
-fine-grant g fine =
-    let p = and-yes (within 1 3 (g .role)) _ fine in
-    let q = and-yes (leb (g .start + g .length) (2 ^ 32)) (leb 1 (g .reach)) (p .1) in
-    let w = within-iff 1 3 (g .role) .0 (p .0) in
-    (w .0, w .1, leb→le (g .start + g .length) (2 ^ 32) (q .0), leb→le 1 (g .reach) (q .1))
+    let p = and-yes (eqb (length ws % 5) 0) _ fine in
+    let q = and-yes (leb (length ws / 5) mostGrants) (every grantFine (grantsOf ws)) (p .1) in
+    (eqb→eq (length ws % 5) 0 (p .0), leb→le (length ws / 5) mostGrants (q .0), q .1)

@@ -3,6 +3,7 @@
 -- What a contract asks is taken as its callers read it: NAME.Asked, of lifetimes and arguments.
 -- Assumes nothing.
 use mathlib.Core.Path.{_≡_}
+use mathlib.Core.Bool.{true}
 use mathlib.Core.Logic.{_↔_}
 use Prim.Native.Nat.{_+_, _-_, _/_, _≤_, _<_, _^_}
 use lib.Dec.{T}
@@ -10,10 +11,11 @@ use lib.ListN.{length}
 use denote.Ref.{now}
 use Rattle.meaning.specs.Words.{wordsOf}
 use Rattle.meaning.specs.Registers.{cells, firstVideo, endVideo, sections3D}
-use Rattle.meaning.specs.Grants.{mostGrants}
+use Rattle.meaning.specs.Grants.{mostGrants, grantsOf, grantsFine}
 use Rattle.meaning.specs.State.{stateWords, marked, wellFormed}
 use Rattle.meaning.specs.Writer.{written, needAmong}
-use Rattle.keeping.specs.Keeping.{noBounds}
+use Rattle.keeping.specs.Keeping.{noBounds, beginnings}
+use Rattle.pair.specs.Judged.{KnownLocal}
 use Rattle.grants.specs.Kept.{Bounded}
 use Rattle.rows_video.specs.Scalers.{IsScaler}
 use Rattle.headers.specs.Told.{IsGroup}
@@ -40,7 +42,11 @@ use Rattle.registers.proofs.name_of.Reads as name-of
 use Rattle.registers.proofs.offset_of.Reads as offset-of
 use Rattle.grants.proofs.part_of.Reads as part-of
 use Rattle.grants.proofs.which.Reads as which
-use Rattle.keeping.proofs.keep.Reads as keep
+use Rattle.keeping.proofs.begin.Reads as begin
+use Rattle.keeping.proofs.place.Reads as place
+use Rattle.pair.proofs.which.Reads as pair-which
+use Rattle.pair.proofs.fine.Reads as pair-fine
+use Rattle.pair.proofs.kept.Reads as pair-kept
 use Rattle.rules.proofs.must_be_clear.Reads as must-be-clear
 use Rattle.rules.proofs.alpha_constants.Reads as alpha-constants
 use Rattle.rules.proofs.location.Reads as location
@@ -86,6 +92,7 @@ use Rattle.emitter_3d.proofs.emit_3d.Reads as emit-3d
 use Rattle.emitter.proofs.emit.Reads as emit
 use Rattle.lines.proofs.put_line_3d.Reads as put-line-3d
 use Rattle.lines.proofs.put_line_video.Reads as put-line-video
+use Rattle.asking.proofs.part_of.Reads as byte-part-of
 use Rattle.asking.proofs.ask.Reads as ask
 use Rattle.engine.proofs.open.Reads as engine-open
 use Rattle.engine.proofs.feed.Reads as engine-feed
@@ -242,8 +249,24 @@ which-asks κs a = asks-this
 
 -- ---- keeping
 
-pub keep-asks : AsksExactly keep.Asked (λ _ (_, (_, (_, (_, (bounds, _))))). now bounds ≡ noBounds)
-keep-asks κs a = asks-this
+pub begin-asks : AsksExactly begin.Asked (λ _ (_, (bounds, _)). now bounds ≡ noBounds)
+begin-asks κs a = asks-this
+
+pub place-asks : AsksExactly place.Asked (λ _ (grants, (_, (_, (_, (bounds, _))))).
+    T (grantsFine (wordsOf (now grants))) × (now bounds ≡ beginnings (grantsOf (wordsOf (now grants)))))
+place-asks κs a = asks-this
+
+-- ---- pair
+
+pub pair-which-asks : AsksExactly pair-which.Asked (λ _ (state, (_, (_, (_, (part, _))))). (length (wordsOf (now state)) ≡ stateWords) × (part .to ≤ mostGrants))
+pair-which-asks κs a = asks-this
+
+pub pair-fine-asks : AsksExactly pair-fine.Asked (λ _ (state, (_, (_, (_, (part, _))))). (length (wordsOf (now state)) ≡ stateWords) × (part .to ≤ mostGrants))
+pair-fine-asks κs a = asks-this
+
+pub pair-kept-asks : AsksExactly pair-kept.Asked (λ _ (_, (_, (own, (starts, (lasts, (numbers, (part, (known, _)))))))).
+    (length (now own) ≡ stateWords) × ((part .to ≤ mostGrants) × (known ≡ true → KnownLocal (now starts) (now lasts) (now numbers) part (now own))))
+pair-kept-asks κs a = asks-this
 
 -- ---- rules
 
@@ -417,6 +440,9 @@ pub furthest-asks : AsksExactly furthest.Asked (λ _ (text, (at, (first, (end, _
 furthest-asks κs a = asks-this
 
 -- ---- words one at a time
+
+pub byte-part-of-asks : AsksExactly byte-part-of.Asked (λ _ (_, (role, _)). role < 4)
+byte-part-of-asks κs a = asks-this
 
 pub ask-asks : AsksNothing ask.Asked
 ask-asks κs a = nothing-asked

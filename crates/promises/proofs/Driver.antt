@@ -16,7 +16,8 @@ use Rattle.laws.proofs.Tests.{true-of, false-of}
 use Rattle.meaning.specs.declared.Answer.{Answer}
 use Rattle.meaning.specs.Words.{Byte, Word, wordsOf, bytesOf}
 use Rattle.meaning.specs.Grants.{grantsFine, termsOf}
-use Rattle.meaning.specs.Batch.{Cut, Longest, Holdable}
+use Rattle.meaning.specs.Batch.{HoldableTarget, HoldableScaler}
+use Rattle.meaning.specs.Pair.{pairFine, Permitted, Longest}
 use Rattle.meaning.specs.State.{wellFormed, empty}
 use Rattle.meaning.specs.Answers.{answer, numberOf}
 use Rattle.meaning.specs.Reader.{readAnswer, readLeaves}
@@ -26,7 +27,7 @@ use Rattle.meaning.proofs.Bytes.{words-bytes, bytes-words, length-words, length
 use Rattle.meaning.proofs.Exported.{read-13-exactly, write-13-exactly, list-13-exactly, read-call-range, write-call-range, list-call-range, read-call, write-call, list-call, list-call-leaves}
 use Rattle.meaning.proofs.Writing.{written-words, written-at-most}
 use Rattle.meaning.proofs.States.{Sound}
-use Rattle.meaning.proofs.Exactly.{accepted-cut}
+use Rattle.meaning.proofs.Exactly.{accepted-permitted}
 use Rattle.meaning.proofs.Outputs.{wrote, written-back}
 use Rattle.irangelda.proofs.Buffers.{over-all, whole-state, read-13, write-13, list-13}
 use Rattle.irangelda.proofs.irangelda_read.Reads as irangelda-read
@@ -124,8 +125,8 @@ module _ (batch grants st : List ℕ) (n : ℕ) (left : List ℕ) (call : Readin
   told : (a : Answer) × Tells n a × Reading batch grants st a left
   told = read-call-is-the-reader batch grants st call fine
 
-  -- D3 "a batch is accepted exactly if it is a row of whole permitted packets": the number is then 256 times the words of the batch
-  pub read-accepted-exactly : (n ≡ length (wordsOf batch) * 256) ↔ Cut (termsOf (wordsOf grants)) (wordsOf batch)
+  -- D3 "a batch is accepted exactly if it is permitted from that state": the number is then 256 times the words of the batch
+  pub read-accepted-exactly : (n ≡ length (wordsOf batch) * 256) ↔ Permitted (termsOf (wordsOf grants)) (wordsOf st) (wordsOf batch)
   read-accepted-exactly =
       let e = accepted-exactly batch grants st (told .0) left (told .2) s l in
       let reason = told .1 .0 in
@@ -135,17 +136,17 @@ module _ (batch grants st : List ℕ) (n : ℕ) (left : List ℕ) (call : Readin
       )
 
   -- and its reason is 0 exactly then
-  pub read-reason-0-exactly : (n % 256 ≡ 0) ↔ Cut (termsOf (wordsOf grants)) (wordsOf batch)
+  pub read-reason-0-exactly : (n % 256 ≡ 0) ↔ Permitted (termsOf (wordsOf grants)) (wordsOf st) (wordsOf batch)
   read-reason-0-exactly = (
-    λ z. accepted-cut (wordsOf batch) (wordsOf grants) (wordsOf st) (ap (λ (x : Answer). x .reason) (sym (told .2 .0)) ∙ sym (told .1 .0) ∙ z),
+    λ z. accepted-permitted (wordsOf batch) (wordsOf grants) (wordsOf st) (ap (λ (x : Answer). x .reason) (sym (told .2 .0)) ∙ sym (told .1 .0) ∙ z),
     λ c. omega (arith, read-accepted-exactly .1 c),
   )
 
   -- D3 "a refusal's place is the length of the longest beginning of the batch that some permitted batch begins with"
-  pub read-place-is-longest-beginning : Holdable (termsOf (wordsOf grants)) 2 → Holdable (termsOf (wordsOf grants)) 3 → n % 256 ≢ 0
-      → Longest (termsOf (wordsOf grants)) (wordsOf batch) (n / 256)
-  read-place-is-longest-beginning h2 h3 z =
-      rw (told .1 .1) (place-is-longest-beginning batch grants st (told .0) left (told .2) s l h2 h3 (λ e. z (told .1 .0 ∙ e)))
+  pub read-place-is-longest-beginning : HoldableTarget (termsOf (wordsOf grants)) → HoldableScaler (termsOf (wordsOf grants)) 2 → HoldableScaler (termsOf (wordsOf grants)) 3
+      → n % 256 ≢ 0 → Longest (termsOf (wordsOf grants)) (wordsOf st) (wordsOf batch) (n / 256)
+  read-place-is-longest-beginning h1 h2 h3 z =
+      rw (told .1 .1) (place-is-longest-beginning batch grants st (told .0) left (told .2) s l h1 h2 h3 (λ e. z (told .1 .0 ∙ e)))
 
 -- ==== There and back: irangelda_write, then irangelda_read
 
@@ -210,6 +211,7 @@ module _ (st grants out : List ℕ) (n : ℕ) (left : List ℕ) (call : WritingB
   wrote-0 = ap (λ (x : Answer). x .reason) (sym (wrote-told .2 .0)) ∙ sym (wrote-told .1 .0) ∙ done
 
   pub wrote-what : T (grantsFine (wordsOf grants)) × Sound (termsOf (wordsOf grants)) words × (writeAnswer words (wordsOf grants) (length out / 4) .place ≡ length (written words))
+      × T (pairFine (termsOf (wordsOf grants)) words)
   wrote-what = wrote words (wordsOf grants) (length out / 4) wrote-0
 
   place : n / 256 ≡ length (written words)
@@ -232,7 +234,7 @@ module _ (st grants out : List ℕ) (n : ℕ) (left : List ℕ) (call : WritingB
       let W = bytesOf (written words) in
       let parts = fine-parts st grants out write-let-through in
       let fine = fine-join W grants zeros (written-fine words) (parts .1) zeros-fine in
-      let again = written-back words (wordsOf grants) (wrote-what .0) (wrote-what .1) in
+      let again = written-back words (wordsOf grants) (wrote-what .0) (wrote-what .1) (wrote-what .3) in
       let read' : ReadingBytes W grants zeros m back = rw written-bytes at read in
       let reader = read-call-is-the-reader W grants zeros read' fine in
       let answered : reader .0 ≡ answer 0 (length (written words)) =

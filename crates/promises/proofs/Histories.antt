@@ -4,37 +4,44 @@ use mathlib.Core.Path.{_≡_, refl, sym, ap, subst, _∙_}
 use mathlib.Core.Logic.{_≢_}
 use mathlib.Core.Bool.{Bool, true, false, _&&_, cond}
 use mathlib.Core.List.{List, [], _∷_, _++_}
-use Prim.Native.Nat.{ℕ, _+_, _%_, min, _≤_}
+use Prim.Native.Nat.{ℕ, _+_, _%_, min, _≤_, _<_}
 use native.Mathlib.Omega.{arith}
 use native.Mathlib.Decide.{ℕ-discrete}
-use lib.ListN.{take}
-use lib.Seq.{length-take-le}
+use lib.Dec.{T}
+use lib.ListN.{take, length, getD}
+use lib.Seq.{length-take-le, getD-append-add}
 use Rattle.laws.specs.Lists.{from}
 use Rattle.laws.proofs.Tests.{holds-of}
 use Rattle.meaning.specs.declared.Answer.{Answer}
 use Rattle.meaning.specs.Words.{wordsOf}
-use Rattle.meaning.specs.Registers.{cells}
-use Rattle.meaning.specs.Grants.{Terms, termsOf, mostGrants, grantsFine}
-use Rattle.meaning.specs.State.{wellFormed, empty}
+use Rattle.meaning.specs.Registers.{cells, cell}
+use Rattle.meaning.specs.Grants.{Terms, termsOf, mostGrants, grantsFine, grantsOf}
+use Rattle.meaning.specs.State.{wellFormed, empty, stateWords, markAt, applyAll}
+use Rattle.meaning.specs.Pair.{targetCell, locationCell, pairKept}
+use Rattle.meaning.specs.Positions.{writesOf}
 use Rattle.meaning.specs.Answers.{success, answer}
 use Rattle.meaning.specs.Engine as engine
 use Rattle.meaning.proofs.States.{Formed, formed-iff}
+use Rattle.meaning.proofs.Pairs.{Low}
+use Rattle.pair.specs.Marks.{cleared}
+use Rattle.pair.proofs.Marks.{restored-is, writes-low}
+use Rattle.pair.proofs.Ends.{kept-is}
 use Rattle.grants.specs.declared.Part.{Part}
-use Rattle.grants.specs.Kept.{Granting, Keeps}
+use Rattle.grants.specs.Kept.{Granting, Keeps, Names, partOf}
 use Rattle.grants.proofs.Keeping.{kept-some, names-keep}
-use Rattle.keeping.specs.Keeping.{Kept, keptAfter}
+use Rattle.keeping.specs.Keeping.{Kept, keptOf}
 use Rattle.keeping.proofs.Keeping.{names, bounded, begun-first}
-use Rattle.asking.specs.Asked.{capped}
+use Rattle.asking.specs.Asked.{capped, partIn}
 use Rattle.asking.proofs.Next.{again-setting}
 use Rattle.feeding.specs.Steps.{leaves}
-use Rattle.feeding.proofs.Steps.{Stands, begun-stands, step-stands, closes-stands, leaves-stands}
+use Rattle.feeding.proofs.Steps.{Stands, begun-stands, step-stands, closes-stands, leaves-stands, closes-refused, leaves-refused, taken-whole}
 use Rattle.feeding.proofs.Promises.{Opens, bad-state, bad-grants, opens, opens-as, refused-at-opening, feed-is, close-is, leaves-is}
 use Rattle.engine.specs.declared.Engine.{Engine}
 use Rattle.engine.specs.declared.Closed.{Closed}
-use Rattle.engine.specs.Bits.{marksOf, packed}
-use Rattle.engine.specs.Kept.{zeros, byteBounds, before, blank, openedWith, opening, standing}
-use Rattle.promises.proofs.Marks.{packed-length, state-packed}
-use Rattle.engine.proofs.Closing.{close-refused, stood}
+use Rattle.engine.specs.Bits.{marksOf, packed, bitOf}
+use Rattle.engine.specs.Kept.{zeros, byteBounds, before, blank, openedWith, opening, standing, pairJudged, behind}
+use Rattle.promises.proofs.Marks.{packed-length, state-packed, cleared-packed}
+use Rattle.engine.proofs.Bits.{mark-at}
 use Rattle.engine.proofs.Feeding.{fed-stays}
 use Rattle.promises.proofs.Standing.{Sized, fed-stands, Same, fed-same}
 use Rattle.promises.specs.Contracts.{Feeding, Closing, Fed, just-opened, and-fed, answered}
@@ -51,12 +58,20 @@ byte-grants : (g : Terms) (role : ℕ) (starts lasts : List ℕ) (x y : ℕ) →
     → Granting g role starts lasts (record { from = x % 256; to = min (y % 256) mostGrants })
 byte-grants g role starts lasts x y l h k = subst (Granting g role starts lasts) (sym (byte-part x y l h)) k
 
+-- the grants that e keeps name those of a list, and the target's stand in their part
+pub record Named (g : Terms) (e : Engine) : Type 0 where
+  pub bounds : List ℕ
+  pub names : Names g (e .starts) (e .lasts) (e .numbers) bounds
+  pub part : partIn (e .bounds) 1 ≡ partOf bounds 1
+
 -- e was opened with the words of a state and of a grant list, and fed these words
 pub record Holds (st grants ws : List ℕ) (e : Engine) : Type 0 where
   pub opens : opening e ≡ cond (wellFormed st && grantsFine grants) st empty
   pub refused : engine.engineAnswer st grants engine.opening .reason ≢ 0 → answered e ≡ engine.engineAnswer st grants engine.opening
-  pub stands : engine.engineAnswer st grants engine.opening .reason ≡ 0 → Stands (termsOf grants) st ws (standing e)
+  pub stands : engine.engineAnswer st grants engine.opening .reason ≡ 0 → Stands (termsOf grants) (cleared st) ws (standing e)
   pub keeps : engine.engineAnswer st grants engine.opening .reason ≡ 0 → Keeps (termsOf grants) (e .starts) (e .lasts) (capped (e .bounds))
+  pub names : engine.engineAnswer st grants engine.opening .reason ≡ 0 → Named (termsOf grants) e
+  pub first : length (e .before) ≡ cells
   pub sized : Sized e
 
 -- ---- opening
@@ -74,12 +89,14 @@ module _ (st grants : List ℕ) where
         refused = λ _. same;
         stands = λ z. absurd (n (ap (λ (x : Answer). x .reason) same ∙ z));
         keeps = λ z. absurd (n (ap (λ (x : Answer). x .reason) same ∙ z));
+        names = λ z. absurd (n (ap (λ (x : Answer). x .reason) same ∙ z));
+        first = refl;
         sized = record { values = refl; marks = refl };
       }
 
   module _ (w : wellFormed st ≡ true) (g : grantsFine grants ≡ true) where
     abbrev kept : Kept
-    kept = keptAfter grants (zeros mostGrants) (zeros mostGrants) (zeros mostGrants)
+    kept = keptOf (grantsOf grants) (zeros mostGrants) (zeros mostGrants) (zeros mostGrants)
 
     formed : Formed st
     formed = formed-iff st .0 (holds-of w)
@@ -97,15 +114,27 @@ module _ (st grants : List ℕ) where
           seconds = byte-grants (termsOf grants) 3 (kept .starts) (kept .lasts) _ _ (first 3 (omega arith)) (inside 3 (omega arith)) (k .seconds);
         }
 
-    open-kept : Holds st grants [] (before success (take cells st) (packed st cells (zeros 4)) kept)
+    kept-names : Named (termsOf grants) (before success (take cells st) (packed st cells (zeros 4)) (packed (cleared st) cells (zeros 4)) kept)
+    kept-names =
+        let first = begun-first grants (zeros mostGrants) (zeros mostGrants) (zeros mostGrants) g in
+        let inside = bounded grants (zeros mostGrants) (zeros mostGrants) (zeros mostGrants) g in
+        record {
+          bounds = kept .bounds;
+          names = names grants (zeros mostGrants) (zeros mostGrants) (zeros mostGrants) g (refl, (refl, refl));
+          part = byte-part _ _ (first 1 (omega arith)) (inside 1 (omega arith));
+        }
+
+    open-kept : Holds st grants [] (before success (take cells st) (packed st cells (zeros 4)) (packed (cleared st) cells (zeros 4)) kept)
     unfolding engine.engineAnswer engine.callAnswer
     open-kept =
         record {
           opens = rw (w, g) (state-packed st formed);
           refused = λ n. rw (w, g);
-          stands = λ z. rw (again-setting, state-packed st formed) (begun-stands (termsOf grants) st);
+          stands = λ z. rw (again-setting, cleared-packed st formed) (begun-stands (termsOf grants) (cleared st));
           keeps = λ z. kept-bytes;
-          sized = record { values = length-take-le cells st (omega (arith, formed .size)); marks = packed-length st cells (zeros 4) };
+          names = λ z. kept-names;
+          first = length-take-le cells st (omega (arith, formed .size));
+          sized = record { values = length-take-le cells st (omega (arith, formed .size)); marks = packed-length (cleared st) cells (zeros 4) };
         }
 
   open-by : (a b : Bool) → wellFormed st ≡ a → grantsFine grants ≡ b → Holds st grants [] (openedWith st grants)
@@ -126,8 +155,8 @@ module _ (st grants ws : List ℕ) (w : ℕ) (e r : Engine) (h : Holds st grants
       let k = kept-some (e .starts) (e .lasts) (capped (e .bounds)) in
       fed (k .0) (k .1) ∙ sym (fed-stays (k .0) e w (λ z. n (sym (ap (λ (a : Answer). a .reason) (h .refused n)) ∙ z)))
 
-  goes-on : engine.engineAnswer st grants engine.opening .reason ≡ 0 → Stands (termsOf grants) st (ws ++ (w ∷ [])) (standing r)
-  goes-on z = rw (fed (termsOf grants) (h .keeps z), fed-stands (termsOf grants) e w (h .sized)) (step-stands (termsOf grants) st ws w (standing e) (h .stands z))
+  goes-on : engine.engineAnswer st grants engine.opening .reason ≡ 0 → Stands (termsOf grants) (cleared st) (ws ++ (w ∷ [])) (standing r)
+  goes-on z = rw (fed (termsOf grants) (h .keeps z), fed-stands (termsOf grants) e w (h .sized)) (step-stands (termsOf grants) (cleared st) ws w (standing e) (h .stands z))
 
   -- what the engine keeps does not hang on the grants that a caller has in mind
   unchanged : Same e r
@@ -143,6 +172,8 @@ module _ (st grants ws : List ℕ) (w : ℕ) (e r : Engine) (h : Holds st grants
         refused = λ n. ap answered (stays n) ∙ h .refused n;
         stands = goes-on;
         keeps = λ z. rw (u .starts, u .lasts, u .bounds) (h .keeps z);
+        names = λ z. let k = h .names z in record { bounds = k .bounds; names = rw (u .starts, u .lasts, u .numbers) (k .names); part = rw (u .bounds) (k .part) };
+        first = rw (u .before) (h .first);
         sized = u .sized;
       }
 
@@ -176,21 +207,66 @@ module _ (st grants ws : List ℕ) (e : Engine) (h : Holds st grants ws e) where
   none-by (bad-grants x y) n = rw (x, y)
   none-by (opens x y) n = absurd (n refl)
 
+  -- the marks at opening, as they are kept
+  mark-kept : (c : ℕ) → c < cells → markAt (opening e) (cell c) ≡ bitOf (e .marked) c
+  mark-kept c l =
+      ap (λ (n : ℕ). getD (opening e) (n + c) 0) (sym (h .first)) ∙ getD-append-add (e .before) (marksOf (e .marked)) c 0 ∙ mark-at (e .marked) c l
+
+  module _ (z : atOpening .reason ≡ 0) where
+    abbrev g : Terms
+    g = termsOf grants
+
+    fine : T (wellFormed st) × T (grantsFine grants)
+    fine = opens-parts (opens-as st grants) z
+      where
+        opens-parts : {a : Answer} → Opens st grants a → a .reason ≡ 0 → T (wellFormed st) × T (grantsFine grants)
+        opens-parts (bad-state x) y = absurd (omega arith)
+        opens-parts (bad-grants x w) y = absurd (omega arith)
+        opens-parts (opens x w) y = (holds-of x, holds-of w)
+
+    size : length st ≡ stateWords
+    size = formed-iff st .0 (fine .0) .size
+
+    held : opening e ≡ st
+    held = h .opens ∙ held-by (opens-as st grants) z
+
+    target-mark : bitOf (e .marked) 1 ≡ markAt st targetCell
+    target-mark = sym (mark-kept 1 (omega arith)) ∙ ap (λ (x : List ℕ). markAt x targetCell) held
+
+    location-mark : bitOf (e .marked) 2 ≡ markAt st locationCell
+    location-mark = sym (mark-kept 2 (omega arith)) ∙ ap (λ (x : List ℕ). markAt x locationCell) held
+
+    -- where no word is refused and no packet is open, what is judged is whether the words keep the pair
+    module _ (y : e .reason ≡ 0) (w : e .left ≡ 0) where
+      low : Low (writesOf ws)
+      low = writes-low g ws (taken-whole (h .stands z) y w)
+
+      pub judged-is : pairJudged e ≡ pairKept g st (writesOf ws)
+      judged-is =
+          let k = h .names z in
+          rw (k .part, target-mark, location-mark, h .stands z .kept y .pending)
+          (kept-is grants (fine .1) (e .starts) (e .lasts) (e .numbers) (k .bounds) (k .names) st size (writesOf ws) low)
+
+      -- and the state behind them is the one that they make
+      pub behind-is : behind e ≡ applyAll st (writesOf ws)
+      behind-is = rw (target-mark, location-mark, h .stands z .kept y .pending) (restored-is st size (writesOf ws) low)
+
   -- what closing answers and hands back
   pub close-holds : (c : Closed) → Closing e c → (c .answer ≡ engine.engineAnswer st grants (engine.closing ws)) × (c .state ≡ engine.engineLeaves st grants ws)
   close-holds c closed =
       elim (ℕ-discrete (atOpening .reason) 0) [
         | yes z ↦ (
-          closed .0 ∙ closes-stands (termsOf grants) st ws (standing e) (h .stands z) ∙ sym (close-is st grants z ws),
-          closed .1 ∙ ap (leaves (standing e)) (h .opens ∙ held-by (opens-as st grants) z)
-              ∙ leaves-stands (termsOf grants) st ws (standing e) (h .stands z) ∙ sym (leaves-is st grants z ws),
+          closed .0 ∙ closes-stands (termsOf grants) (cleared st) st ws (standing e) (h .stands z) (pairJudged e) (judged-is z) ∙ sym (close-is st grants z ws),
+          closed .1 ∙ ap (leaves (pairJudged e) (standing e) (behind e)) (held z)
+              ∙ leaves-stands (termsOf grants) (cleared st) st ws (standing e) (h .stands z) (pairJudged e) (judged-is z) (behind e) (behind-is z)
+              ∙ sym (leaves-is st grants z ws),
         )
         | no n ↦
             let same = h .refused n in
             let m : e .reason ≢ 0 = λ z. n (sym (ap (λ (a : Answer). a .reason) same) ∙ z) in
-            let refusal = close-refused (standing e) (opening e) (stood (e .reason) (e .left) m) m refl in
+            let refusal = closes-refused (pairJudged e) (standing e) m in
             let again = refused-at-opening st grants ws n in (
-              closed .0 ∙ sym (refusal .0) ∙ same ∙ sym (again .close),
-              closed .1 ∙ sym (refusal .1) ∙ h .opens ∙ none-by (opens-as st grants) n ∙ sym (again .state),
+              closed .0 ∙ refusal ∙ same ∙ sym (again .close),
+              closed .1 ∙ leaves-refused (pairJudged e) (standing e) m (behind e) (opening e) ∙ h .opens ∙ none-by (opens-as st grants) n ∙ sym (again .state),
             )
       ]

@@ -3,7 +3,7 @@
 use mathlib.Core.Path.{_≡_, refl, sym, ap, _∙_}
 use mathlib.Core.Logic.{_≢_}
 use mathlib.Core.Bool.{Bool, true, false, cond}
-use mathlib.Core.List.{List, _++_}
+use mathlib.Core.List.{List, _++_, [], _∷_}
 use Prim.Native.Nat.{ℕ, zero, suc, _+_, _*_, _-_, _/_, _%_, _^_, _≤_, _<_}
 use native.Mathlib.Omega.{arith}
 use native.Mathlib.Decide.{ℕ-discrete, decLt}
@@ -12,9 +12,12 @@ use lib.Bits.{bitOr, or-shr, or-mod, or-zero-r, shifted-even}
 use lib.ListN.{length, getD, set, take, drop, replicate, getD-replicate, length-set, take-append-drop, length-drop}
 use lib.Pow.{pow-lt, pow-add, pow-pos, shl-shr}
 use lib.Seq.{ext-getD, getD-set-same, getD-set-other, getD-drop}
+use Rattle.laws.specs.Tests.{within}
 use Rattle.meaning.specs.Registers.{cells, cell}
-use Rattle.meaning.specs.State.{one, isMark, marked, markAt}
+use Rattle.meaning.specs.State.{one, isMark, marked, markAt, stateWords}
 use Rattle.meaning.proofs.States.{Formed}
+use Rattle.pair.specs.Marks.{cleared}
+use Rattle.pair.proofs.Marks.{cleared-length, cleared-mark}
 use Rattle.engine.specs.Bits.{bitOf, marksOf, withMark, packed}
 use Rattle.engine.proofs.Bits.{marks-length, mark-at}
 
@@ -141,15 +144,39 @@ module _ (st : List ℕ) where
   mark-number (suc zero) h = refl
   mark-number (suc (suc m)) h = absurd (omega arith)
 
-  -- they are its marks
-  pub marks-packed : Formed st → marksOf (packed st cells (replicate 4 0)) ≡ drop cells st
-  marks-packed f =
+  -- they are its marks, where these are 0 or 1
+  pub marks-packed : length st ≡ stateWords → ((c : ℕ) → c < cells → markAt st (cell c) ≤ 1) → marksOf (packed st cells (replicate 4 0)) ≡ drop cells st
+  marks-packed size small =
       let ms = packed st cells (replicate 4 0) in
       ext-getD 0 (marksOf ms) (drop cells st)
-      (marks-length ms ∙ sym (length-drop cells st ∙ omega (arith, f .size)))
+      (marks-length ms ∙ sym (length-drop cells st ∙ omega (arith, size)))
       (λ i h.
       let l : i < cells = omega (arith, marks-length ms) in
-      mark-at ms i l ∙ packs cells (omega arith) .looked i l l ∙ mark-number (markAt st (cell i)) (f .mark i l) ∙ sym (getD-drop cells st i 0))
+      mark-at ms i l ∙ packs cells (omega arith) .looked i l l ∙ mark-number (markAt st (cell i)) (small i l) ∙ sym (getD-drop cells st i 0))
 
   pub state-packed : Formed st → take cells st ++ marksOf (packed st cells (replicate 4 0)) ≡ st
-  state-packed f = ap (λ (l : List ℕ). take cells st ++ l) (marks-packed f) ∙ take-append-drop cells st
+  state-packed f = ap (λ (l : List ℕ). take cells st ++ l) (marks-packed (f .size) (f .mark)) ∙ take-append-drop cells st
+
+-- ---- the same without the marks of the pair
+
+take-set : (n i v : ℕ) (xs : List ℕ) → n ≤ i → take n (set xs i v) ≡ take n xs
+take-set n i v [] h = refl
+take-set zero i v (x ∷ xs) h = refl
+take-set (suc n) zero v (x ∷ xs) h = absurd (omega arith)
+take-set (suc n) (suc i) v (x ∷ xs) h = ap (λ (l : List ℕ). x ∷ l) (take-set n i v xs (omega arith))
+
+same-values : (st : List ℕ) → take cells (cleared st) ≡ take cells st
+unfolding cleared
+same-values st = take-set cells 103 0 (set st 102 0) (omega arith) ∙ take-set cells 102 0 st (omega arith)
+
+pub cleared-packed : (st : List ℕ) → Formed st → take cells st ++ marksOf (packed (cleared st) cells (replicate 4 0)) ≡ cleared st
+cleared-packed st f =
+    let small : (c : ℕ) → c < cells → markAt (cleared st) (cell c) ≤ 1 =
+    λ c l. rw (cleared-mark st (f .size) c l) (outside-small (within 1 2 c) (markAt st (cell c)) (f .mark c l)) in
+    ap (λ (l : List ℕ). l ++ marksOf (packed (cleared st) cells (replicate 4 0))) (sym (same-values st))
+    ∙ ap (λ (l : List ℕ). take cells (cleared st) ++ l) (marks-packed (cleared st) (cleared-length st ∙ f .size) small)
+    ∙ take-append-drop cells (cleared st)
+  where
+    outside-small : (b : Bool) (m : ℕ) → m ≤ 1 → cond b 0 m ≤ 1
+    outside-small true m l = omega arith
+    outside-small false m l = l

@@ -68,8 +68,13 @@ use Rattle.needs.specs.declared.Need.{Need}
 use Rattle.needs.proofs.needed.Reads as needed
 use Rattle.lines.proofs.put_line_3d.Reads as put-line-3d
 use Rattle.lines.proofs.put_line_video.Reads as put-line-video
-use Rattle.keeping.proofs.keep.Reads as keep
+use Rattle.keeping.proofs.begin.Reads as begin
+use Rattle.keeping.proofs.place.Reads as place
+use Rattle.pair.proofs.which.Reads as pair-which
+use Rattle.pair.proofs.fine.Reads as pair-fine
+use Rattle.pair.proofs.kept.Reads as pair-kept
 use Rattle.asking.specs.Asked.{capped}
+use Rattle.asking.proofs.part_of.Reads as byte-part-of
 use Rattle.asking.proofs.ask.Reads as ask
 use Rattle.engine.proofs.open.Reads as engine-open
 use Rattle.engine.proofs.feed.Reads as engine-feed
@@ -304,16 +309,27 @@ load-one κs a r r' s s' p q = one-answer p q
 pub store-one : (κs : _) (a : _) (r r' : _) (s s' : _) → store.Learnt κs a r s → store.Learnt κs a r' s' → now (s .1 .0) ≡ now (s' .1 .0)
 store-one κs a r r' s s' p q = one-answer p q
 
-pub keep-one : (κs : _) (a : _) (r r' : _) (s s' : _) → keep.Learnt κs a r s → keep.Learnt κs a r' s'
-    → (r ≡ r') × (now (s .1 .0) ≡ now (s' .1 .0)) × (now (s .1 .1 .0) ≡ now (s' .1 .1 .0)) × (now (s .1 .1 .1 .0) ≡ now (s' .1 .1 .1 .0))
+pub begin-one : (κs : _) (a : _) (r r' : _) (s s' : _) → begin.Learnt κs a r s → begin.Learnt κs a r' s' → (r ≡ r') × (now (s .1 .0) ≡ now (s' .1 .0))
+begin-one κs a r r' s s' p q = (one-answer (p .0) (q .0), one-answer (p .1) (q .1))
+
+pub place-one : (κs : _) (a : _) (r r' : _) (s s' : _) → place.Learnt κs a r s → place.Learnt κs a r' s'
+    → (now (s .1 .0) ≡ now (s' .1 .0)) × (now (s .1 .1 .0) ≡ now (s' .1 .1 .0)) × (now (s .1 .1 .1 .0) ≡ now (s' .1 .1 .1 .0))
     × (now (s .1 .1 .1 .1 .0) ≡ now (s' .1 .1 .1 .1 .0))
-keep-one κs a r r' s s' p q = (
+place-one κs a r r' s s' p q = (
   one-answer (p .0) (q .0),
   one-answer (p .1 .0) (q .1 .0),
   one-answer (p .1 .1 .0) (q .1 .1 .0),
-  one-answer (p .1 .1 .1 .0) (q .1 .1 .1 .0),
-  one-answer (p .1 .1 .1 .1) (q .1 .1 .1 .1),
+  one-answer (p .1 .1 .1) (q .1 .1 .1),
 )
+
+pub pair-which-one : Determined pair-which.Learnt
+pair-which-one κs a r r' s s' p q = one-answer p q
+
+pub pair-fine-one : Determined pair-fine.Learnt
+pair-fine-one κs a r r' s s' p q = one-answer p q
+
+pub pair-kept-one : (κs : _) (a : _) (r r' : _) (s s' : _) → pair-kept.Learnt κs a r s → pair-kept.Learnt κs a r' s' → (r ≡ r') × (now (s .1 .1 .0) ≡ now (s' .1 .1 .0))
+pair-kept-one κs a r r' s s' p q = (one-answer (p .0) (q .0), one-answer (p .1) (q .1))
 
 -- where what is left is told by the answer, the answers are equal first
 pub read-one : (κs : _) (a : _) (r r' : _) (s s' : _) → read.Learnt κs a r s → read.Learnt κs a r' s' → (r ≡ r') × (now (s .1 .1 .0) ≡ now (s' .1 .1 .0))
@@ -382,6 +398,9 @@ read-packets-one κs a r r' s s' p q =
     (one-answer (p .0 (k .0) (k .1)) (q .0 (k .0) (k .1)), one-answer (p .1 (k .0) (k .1)) (q .1 (k .0) (k .1)))
 
 -- whatever an engine keeps keeps some grants
+pub byte-part-of-one : Determined byte-part-of.Learnt
+byte-part-of-one κs a r r' s s' p q = one-answer (p .0) (q .0)
+
 pub ask-one : Determined ask.Learnt
 ask-one κs a r r' s s' p q =
     let k = kept-some (now (a .1 .1 .1 .0)) (now (a .1 .1 .1 .1 .0)) (capped (now (a .1 .1 .1 .1 .1 .1 .0))) in

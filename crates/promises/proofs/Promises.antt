@@ -1,7 +1,7 @@
 -- What the reader, the writer and the lister promise, of whatever their contracts allow: an answer a, and what is left in the lent buffer.
 -- All buffers are bytes. What the calls of the driver promise, in numbers and bytes, is in Driver.
 -- Assumes nothing.
-use mathlib.Core.Path.{_≡_, refl, sym, ap, _∙_}
+use mathlib.Core.Path.{_≡_, refl, ap, _∙_}
 use mathlib.Core.Logic.{_↔_, _≢_, _⊎_, inl, inr}
 use mathlib.Core.List.{List, _∷_, _++_}
 use Prim.Native.Nat.{ℕ, _+_, _/_, _≤_, _<_}
@@ -10,29 +10,31 @@ use lib.Dec.{T}
 use lib.ListN.{length, drop, getD}
 use denote.Ref.{now}
 use Rattle.laws.specs.Lists.{All}
-use Rattle.laws.proofs.Tests.{true-of}
 use Rattle.meaning.specs.declared.Answer.{Answer}
 use Rattle.meaning.specs.Words.{Byte, Word, wordsOf, bytesOf}
 use Rattle.meaning.specs.Registers.{cells, cell}
 use Rattle.meaning.specs.Grants.{grantsOf, grantsFine, termsOf, Terms}
-use Rattle.meaning.specs.Batch.{Cut, Longest, Holdable}
-use Rattle.meaning.specs.State.{valueAt, markAt, wellFormed, empty, Write, applyAll, allWrites, Reached}
+use Rattle.meaning.specs.Batch.{Cut, HoldableTarget, HoldableScaler}
+use Rattle.meaning.specs.State.{valueAt, markAt, wellFormed, empty, Write, applyAll, allWrites}
+use Rattle.meaning.specs.Pair.{wrotePair, Permitted, Longest, Reached}
+use Rattle.meaning.specs.Positions.{writesOf}
 use Rattle.meaning.specs.Answers.{answer}
 use Rattle.meaning.specs.Reader.{readAnswer, readLeaves}
 use Rattle.meaning.specs.Writer.{written}
 use Rattle.meaning.specs.Lister.{listing, listAnswer, listLeaves}
-use Rattle.meaning.specs.Reasons.{CellFine, ReaderGives, WriterGives, ListerGives}
-use Rattle.meaning.specs.Fitter.{Inside, Apart, Safe, Stores}
+use Rattle.meaning.specs.Reasons.{Writable, ReaderGives, WriterGives, ListerGives}
+use Rattle.meaning.specs.Fitter.{Inside, Apart, Safe, EachKept}
 use Rattle.meaning.proofs.Cuts.{cut-one-way}
-use Rattle.meaning.proofs.Places.{refusal-longest}
-use Rattle.meaning.proofs.Samples.{samples-of}
 use Rattle.meaning.proofs.Writing.{written-words, written-at-most}
 use Rattle.meaning.proofs.States.{formed-iff, untouched, last-holds}
-use Rattle.meaning.proofs.Round.{reached-sound, reached-iff, packets-low, left-by, accepted-formed, leaves-formed}
-use Rattle.meaning.proofs.Exactly.{read-batch, accepted-cut, accepted-iff, read-exactly}
-use Rattle.meaning.proofs.Fitter.{packets-inside, packets-safe}
+use Rattle.meaning.proofs.Round.{reached-sound, reached-pair, reached-iff, packets-low, left-by, accepted-formed, leaves-formed}
+use Rattle.meaning.proofs.Exactly.{accepted-permitted, accepted-iff, read-exactly}
 use Rattle.meaning.proofs.Outputs.{write-told, write-answer, write-exactly, written-back, list-answer, list-exactly, listing-at-most}
 use Rattle.meaning.proofs.Bytes.{words-bytes, settle-done, settle-refused}
+use Rattle.pairing.proofs.Entry.{SamePair}
+use Rattle.pairing.proofs.Mended.{refusal-longest}
+use Rattle.pairing.proofs.Ignores.{ignores}
+use Rattle.pairing.proofs.Kept.{inside-kept, safe-kept}
 use Rattle.reader.proofs.read.Reads as read
 use Rattle.writer.proofs.write.Reads as write
 use Rattle.lister.proofs.list.Reads as list
@@ -58,11 +60,6 @@ lists κs a r s p = p
 
 -- ==== Demand 3
 
--- two well-formed states are judged alike
-whatever-it-holds : (batch grants st other : List ℕ) → T (wellFormed st) → T (wellFormed other) → readAnswer batch grants st ≡ readAnswer batch grants other
-unfolding readAnswer
-whatever-it-holds batch grants st other s o = rw (true-of (wellFormed st) s, true-of (wellFormed other) o)
-
 -- `batch`, `grants` and `st` are the bytes that were lent, of any length, and ws, gs and sw the words that they are
 module _ (batch grants st : List ℕ) (a : Answer) (left : List ℕ) (read : Reading batch grants st a left) where
   abbrev ws : List ℕ
@@ -74,16 +71,16 @@ module _ (batch grants st : List ℕ) (a : Answer) (left : List ℕ) (read : Rea
   abbrev sw : List ℕ
   sw = wordsOf st
 
-  -- D3 "a batch is accepted exactly if it is a row of whole permitted packets"; the place is then its length
-  pub accepted-exactly : T (wellFormed sw) → T (grantsFine gs) → (a ≡ answer 0 (length ws)) ↔ Cut (termsOf gs) ws
+  -- D3 "a batch is accepted exactly if it is permitted from that state": B14 "a row of whole permitted packets and keeps the pair"; the place
+  -- is then its length
+  pub accepted-exactly : T (wellFormed sw) → T (grantsFine gs) → (a ≡ answer 0 (length ws)) ↔ Permitted (termsOf gs) sw ws
   accepted-exactly s l = rw (read .0) (accepted-iff ws gs sw s l)
 
-  -- D3 "a refusal's place is the length of the longest beginning of the batch that some permitted batch begins with"
-  pub place-is-longest-beginning : T (wellFormed sw) → T (grantsFine gs) → Holdable (termsOf gs) 2 → Holdable (termsOf gs) 3
-      → a .reason ≢ 0 → Longest (termsOf gs) ws (a .place)
-  place-is-longest-beginning s l h2 h3 n =
-      let same = read .0 ∙ read-batch ws gs sw s l in
-      rw same (refusal-longest (termsOf gs) (samples-of (termsOf gs) h2 h3) ws (rw same at n))
+  -- D3 "a refusal's place is the length of the longest beginning of the batch that some permitted batch begins with", if D3 "each of the three
+  -- roles has a granted address that its registers can hold"
+  pub place-is-longest-beginning : T (wellFormed sw) → T (grantsFine gs) → HoldableTarget (termsOf gs) → HoldableScaler (termsOf gs) 2 → HoldableScaler (termsOf gs) 3
+      → a .reason ≢ 0 → Longest (termsOf gs) sw ws (a .place)
+  place-is-longest-beginning s l h1 h2 h3 n = rw (read .0) (refusal-longest ws gs sw s l h1 h2 h3 (rw (read .0) at n))
 
   -- D1 "Every refusal has the reason and the place that these rules give it": the answer is r at p exactly if the table says so
   pub each-reason-exactly : (r p : ℕ) → (a ≡ answer r p) ↔ ReaderGives ws gs sw r p
@@ -93,22 +90,16 @@ module _ (batch grants st : List ℕ) (a : Answer) (left : List ℕ) (read : Rea
   pub refused-unread : a .reason ≢ 0 → left ≡ st
   refused-unread n = read .1 ∙ settle-refused a _ st n
 
-  -- the reader's reason and place do not depend on what the registers hold
-  pub answer-ignores-state : (other : List ℕ) (b : Answer) (after : List ℕ) → Reading batch grants other b after → T (wellFormed sw) → T (wellFormed (wordsOf other)) → a ≡ b
-  answer-ignores-state other b after also s o = read .0 ∙ whatever-it-holds ws gs sw (wordsOf other) s o ∙ sym (also .0)
-
-  -- ==== The fitter's question: "Can one scribble on the other?"
-
-  -- every address that an accepted batch writes lies, with its reach, inside one grant of its role
-  pub nothing-outside-a-grant : a .reason ≡ 0 → (c : Cut (termsOf gs) ws) × All (Stores (Inside (grantsOf gs))) (allWrites (c .packets))
-  nothing-outside-a-grant e = let c = accepted-cut ws gs sw (rw (read .0) at e) in (c, packets-inside (termsOf gs) (c .packets) (c .permitted))
-
-  -- and touches nothing that is granted to another program, where no memory is granted to both
-  pub two-programs-apart : (theirs : List ℕ) → Apart (grantsOf gs) (grantsOf theirs) → a .reason ≡ 0
-      → (c : Cut (termsOf gs) ws) × All (Stores (Safe (grantsOf gs) (grantsOf theirs))) (allWrites (c .packets))
-  two-programs-apart theirs apart e =
-      let c = accepted-cut ws gs sw (rw (read .0) at e) in
-      (c, packets-safe (termsOf gs) (grantsOf theirs) apart (c .packets) (c .permitted))
+  -- of what the registers hold, the reader's answer depends on cells 1 and 2 alone, and only as to 0 or 14: no place depends on it, no reason
+  -- but these, and these not where the batch writes neither cell
+  pub answer-ignores-state : (other : List ℕ) (b : Answer) (after : List ℕ) → Reading batch grants other b after → T (wellFormed sw) → T (wellFormed (wordsOf other))
+      → (a .place ≡ b .place)
+      × (a .reason ≢ 0 → a .reason ≢ 14 → a ≡ b)
+      × (SamePair sw (wordsOf other) → a ≡ b)
+      × (¬ T (wrotePair (writesOf ws)) → a ≡ b)
+  answer-ignores-state other b after also s o =
+      let i = ignores ws gs sw (wordsOf other) s o in
+      rw (read .0, also .0) (i .place, i .refusals, i .pair, i .unwritten)
 
   -- ==== Demand 2: what the bytes of the state then are, as words
 
@@ -122,8 +113,8 @@ module _ (batch grants st : List ℕ) (a : Answer) (left : List ℕ) (read : Rea
     left-as-cut e c = left-as-words ∙ left-by ws gs sw (rw (read .0) at e) c
 
     -- D2 "What an accepted batch leaves is the state that its writes make, one after another, by these tables."
-    pub state-is-its-writes : a .reason ≡ 0 → (c : Cut (termsOf gs) ws) × (wordsOf left ≡ applyAll sw (allWrites (c .packets)))
-    state-is-its-writes e = let c = accepted-cut ws gs sw (rw (read .0) at e) in (c, left-as-cut e c)
+    pub state-is-its-writes : a .reason ≡ 0 → (p : Permitted (termsOf gs) sw ws) × (wordsOf left ≡ applyAll sw (allWrites (p .cut .packets)))
+    state-is-its-writes e = let p = accepted-permitted ws gs sw (rw (read .0) at e) in (p, left-as-cut e (p .cut))
 
     -- S6 "the last write holds"
     pub last-write-holds : a .reason ≡ 0 → (c : Cut (termsOf gs) ws) (before : List Write) (w : Write) (later : List Write)
@@ -141,6 +132,18 @@ module _ (batch grants st : List ℕ) (a : Answer) (left : List ℕ) (read : Rea
     -- a state that is well-formed stays so, accepted or refused
     pub stays-well-formed : T (wellFormed sw) → T (wellFormed (wordsOf left))
     stays-well-formed f = rw left-as-words (formed-iff (readLeaves ws gs sw) .1 (leaves-formed ws gs sw (formed-iff sw .0 f)))
+
+    -- ==== The fitter's question: "Can one scribble on the other?"
+
+    -- every address that an accepted batch writes lies, with its reach, inside one grant of its role, a scaler's in memory 0; and where it
+    -- writes cell 1 or 2, the target's address does so in the memory that cell 2 then names
+    pub nothing-outside-a-grant : a .reason ≡ 0 → (c : Cut (termsOf gs) ws) × EachKept (Inside (grantsOf gs)) (allWrites (c .packets)) (wordsOf left)
+    nothing-outside-a-grant e = rw left-as-words (inside-kept ws gs sw (rw (read .0) at e))
+
+    -- and touches nothing that is granted to another program, where no byte of one memory is granted to both
+    pub two-programs-apart : (theirs : List ℕ) → Apart (grantsOf gs) (grantsOf theirs) → a .reason ≡ 0
+        → (c : Cut (termsOf gs) ws) × EachKept (Safe (grantsOf gs) (grantsOf theirs)) (allWrites (c .packets)) (wordsOf left)
+    two-programs-apart theirs apart e = rw left-as-words (safe-kept ws gs theirs sw apart (rw (read .0) at e))
 
 -- D3 "there is only one way to cut it into them"
 pub one-cut : (g : Terms) (batch : List ℕ) (c d : Cut g batch) → c .packets ≡ d .packets
@@ -165,10 +168,10 @@ module _ (st grants out : List ℕ) (a : Answer) (left : List ℕ) (write : Writ
       → (b ≡ answer 0 (length (written from))) × (wordsOf back ≡ from))
   writer-reaches l r room =
       let s = reached-sound (termsOf under) from r in
-      let done : a ≡ answer 0 (length (written from)) =
-      write .0 ∙ write-answer from under (length out / 4) (WriterGives.done (formed-iff from .1 (s .formed)) l (s .fine) room) in
+      let parts = reached-iff (termsOf under) from .0 r in
+      let done : a ≡ answer 0 (length (written from)) = write .0 ∙ write-answer from under (length out / 4) (WriterGives.done (parts .0) l (parts .1) room) in
       let words = written-words (termsOf under) from (s .fine) in
-      let again = written-back from under l s in
+      let again = written-back from under l s (reached-pair (termsOf under) from r) in
       let same : wordsOf (bytesOf (written from)) ≡ written from = words-bytes (written from) words in (
         done,
         write .1 ∙ settle-done a _ out (ap (λ (x : Answer). x .reason) done),
@@ -179,15 +182,15 @@ module _ (st grants out : List ℕ) (a : Answer) (left : List ℕ) (write : Writ
         ),
       )
 
-  -- D2 "every other state it refuses": with 1, or with 12 at the lowest marked cell that holds what it may not
+  -- D2 "every other state it refuses": with 1, or with 12 at the lowest marked cell that holds what it may not, a pair that is not fine at cell 1
   pub writer-refuses-the-rest : T (grantsFine under) → ¬ Reached (termsOf under) from
       → ((¬ T (wellFormed from)) × (a ≡ answer 1 0))
-      ⊎ ((c : ℕ) × (a ≡ answer 12 c) × (c < cells) × (¬ CellFine (termsOf under) from (cell c)) × ((d : ℕ) → d < c → CellFine (termsOf under) from (cell d)))
+      ⊎ ((c : ℕ) × (a ≡ answer 12 c) × (c < cells) × (¬ Writable (termsOf under) from (cell c)) × ((d : ℕ) → d < c → Writable (termsOf under) from (cell d)))
   writer-refuses-the-rest l n = rest (write-told from under (length out / 4)) (write .0)
     where
       rest : {r p : ℕ} → WriterGives from under (length out / 4) r p → a ≡ answer r p
           → ((¬ T (wellFormed from)) × (a ≡ answer 1 0))
-          ⊎ ((c : ℕ) × (a ≡ answer 12 c) × (c < cells) × (¬ CellFine (termsOf under) from (cell c)) × ((d : ℕ) → d < c → CellFine (termsOf under) from (cell d)))
+          ⊎ ((c : ℕ) × (a ≡ answer 12 c) × (c < cells) × (¬ Writable (termsOf under) from (cell c)) × ((d : ℕ) → d < c → Writable (termsOf under) from (cell d)))
       rest (WriterGives.bad-state s) e = inl (s, e)
       rest (WriterGives.bad-grants s f) e = absurd (f l)
       rest (WriterGives.not-writable {c} s f low bad before) e = inr (c, e, low, bad, before)
@@ -217,8 +220,8 @@ module _ (st grants out : List ℕ) (a : Answer) (left : List ℕ) (write : Writ
   pub refused-unwritten : a .reason ≢ 0 → left ≡ out
   refused-unwritten n = write .1 ∙ settle-refused a _ out n
 
--- the states that some batch reaches from empty: well-formed, and each marked cell holds what it may
-pub reached-exactly : (g : Terms) (st : List ℕ) → Reached g st ↔ (T (wellFormed st) × ((c : ℕ) → c < cells → CellFine g st (cell c)))
+-- the states that some batch reaches from empty: well-formed, each marked cell holds what it may, and the pair is fine
+pub reached-exactly : (g : Terms) (st : List ℕ) → Reached g st ↔ (T (wellFormed st) × ((c : ℕ) → c < cells → Writable g st (cell c)))
 reached-exactly = reached-iff
 
 -- W4 "No state needs more than 184 words."

@@ -108,12 +108,13 @@ pub record Same (e r : Engine) : Type 0 where
   pub marked : r .marked ≡ e .marked
   pub starts : r .starts ≡ e .starts
   pub lasts : r .lasts ≡ e .lasts
+  pub numbers : r .numbers ≡ e .numbers
   pub bounds : r .bounds ≡ e .bounds
   pub sized : Sized r
 
 module _ (e : Engine) (sized : Sized e) where
   same : Same e e
-  same = record { before = refl; marked = refl; starts = refl; lasts = refl; bounds = refl; sized = sized }
+  same = record { before = refl; marked = refl; starts = refl; lasts = refl; numbers = refl; bounds = refl; sized = sized }
 
   set-sized : (b : Bool) (c v : ℕ) → (length (cond b (set (e .values) c v) (e .values)) ≡ cells) × (length (cond b (withMark (e .marks) c) (e .marks)) ≡ 4)
   set-sized true c v = (length-set (e .values) c v ∙ sized .values, with-length (e .marks) c ∙ sized .marks)
@@ -121,12 +122,12 @@ module _ (e : Engine) (sized : Sized e) where
 
   same-by : (r : ℕ) (b : Bool) (x : ℕ) (a : Asked) → Same e (unlessRefused r e (cond b (refusedBy engineFull e) (toldBy x a e)))
   same-by (suc r) b x a = same
-  same-by zero true x a = record { before = refl; marked = refl; starts = refl; lasts = refl; bounds = refl; sized = record { values = sized .values; marks = sized .marks } }
+  same-by zero true x a = record { before = refl; marked = refl; starts = refl; lasts = refl; numbers = refl; bounds = refl; sized = record { values = sized .values; marks = sized .marks } }
   same-by zero false (suc x) a =
-      record { before = refl; marked = refl; starts = refl; lasts = refl; bounds = refl; sized = record { values = sized .values; marks = sized .marks } }
+      record { before = refl; marked = refl; starts = refl; lasts = refl; numbers = refl; bounds = refl; sized = record { values = sized .values; marks = sized .marks } }
   same-by zero false zero a =
       let s = set-sized (ltb (a .cell .0) cells) (a .cell .0) (a .value) in
-      record { before = refl; marked = refl; starts = refl; lasts = refl; bounds = refl; sized = record { values = s .0; marks = s .1 } }
+      record { before = refl; marked = refl; starts = refl; lasts = refl; numbers = refl; bounds = refl; sized = record { values = s .0; marks = s .1 } }
 
   pub fed-same : (g : Terms) (w : ℕ) → Same e (fedWith g e w)
   unfolding fedWith

@@ -16,11 +16,11 @@ use Rattle.meaning.specs.State.{stateWords, wellFormed, applyAll}
 use Rattle.meaning.specs.Positions.{writesOf}
 use Rattle.meaning.specs.Reader.{readLeaves}
 use Rattle.meaning.specs.Writer.{written, writeAnswer}
-use Rattle.meaning.specs.Fitter.{Inside, Apart, Safe}
+use Rattle.meaning.specs.Fitter.{Inside, Apart, Safe, OfTarget}
 use Rattle.meaning.specs.Exported.{exportedRead, exportedReadLeaves}
 use Rattle.meaning.proofs.Bytes.{words-bytes, settle-done}
 use Rattle.meaning.proofs.Exported.{words-small}
-use Rattle.chip.specs.Chip.{obeys, obeysAll, AllAccepted, leftBy, Full, Remarked, AddressesRemarked, LaidOver, EachAddress}
+use Rattle.chip.specs.Chip.{obeys, obeysAll, AllAccepted, leftBy, Full, Remarked, AddressesRemarked, PairRemarked, LaidOver, EachAddress}
 use Rattle.chip.specs.House.{HouseGranted, Whole, house}
 use Rattle.chip.proofs.Switch as theory
 use Rattle.chip.proofs.House as the-house
@@ -99,7 +99,7 @@ module _ (st grants out : List ℕ) (n : ℕ) (left : List ℕ) (call : WritingB
           rw ring-is-written
           (theory.after-a-switch chip next (wordsOf grants) (length out / 4) zero size r (map wordsOf batches) (turn bytes accepted .0))
 
-      -- also in the midst of a further batch that is accepted: after any number of its writes
+      -- also in the midst of a further batch that is accepted: after any number of its writes. Of the memory that cell 2 names then, nothing is said
       pub amid-a-batch : length chip ≡ stateWords → AddressesRemarked chip next → (batch : List ℕ) (m : ℕ) (after : List ℕ)
           → ReadingBytes batch grants end m after → m % 256 ≡ 0 → (k : ℕ)
           → EachAddress (Inside (grantsOf (wordsOf grants))) (applyAll (obeysAll (obeys chip ring) (map wordsOf batches)) (take k (writesOf (wordsOf batch))))
@@ -110,13 +110,28 @@ module _ (st grants out : List ℕ) (n : ℕ) (left : List ℕ) (call : WritingB
           rw ring-is-written
           (theory.amid-a-batch chip next (wordsOf grants) (length out / 4) zero size r (map wordsOf batches) (t .0) (wordsOf batch) (rw (t .1) at ok) k)
 
-      -- and touches nothing that is granted to another program, where no memory is granted to both
+      -- and touches nothing that is granted to another program, where no byte of one memory is granted to both
       pub after-a-switch-apart : length chip ≡ stateWords → AddressesRemarked chip next → (theirs : List ℕ)
           → Apart (grantsOf (wordsOf grants)) (grantsOf (wordsOf theirs))
           → EachAddress (Safe (grantsOf (wordsOf grants)) (grantsOf (wordsOf theirs))) (obeysAll (obeys chip ring) (map wordsOf batches))
       after-a-switch-apart size r theirs apart =
           rw ring-is-written
           (theory.after-a-switch-apart chip next (wordsOf grants) (length out / 4) zero size r (map wordsOf batches) (turn bytes accepted .0) (wordsOf theirs) apart)
+
+      -- and if the program's state marks cells 1 and 2 where they held something, the target's address lies, with its reach, inside a grant of
+      -- the program's own in the memory that cell 2 of the chip names: after the words, and after each batch
+      pub target-after-a-switch : T (wellFormed chip) → PairRemarked chip next
+          → OfTarget (Inside (grantsOf (wordsOf grants))) (obeysAll (obeys chip ring) (map wordsOf batches))
+      target-after-a-switch w r =
+          rw ring-is-written
+          (theory.target-after-a-switch chip next (wordsOf grants) (length out / 4) zero w r (map wordsOf batches) (turn bytes accepted .0))
+
+      pub target-after-a-switch-apart : T (wellFormed chip) → PairRemarked chip next → (theirs : List ℕ)
+          → Apart (grantsOf (wordsOf grants)) (grantsOf (wordsOf theirs))
+          → OfTarget (Safe (grantsOf (wordsOf grants)) (grantsOf (wordsOf theirs))) (obeysAll (obeys chip ring) (map wordsOf batches))
+      target-after-a-switch-apart w r theirs apart =
+          rw ring-is-written
+          (theory.target-after-a-switch-apart chip next (wordsOf grants) (length out / 4) zero w r (map wordsOf batches) (turn bytes accepted .0) (wordsOf theirs) apart)
 
       -- if the program's state marks every cell that was marked, the chip then holds what the driver keeps for the program
       pub chip-is-the-state : T (wellFormed chip) → Remarked chip next → obeysAll (obeys chip ring) (map wordsOf batches) ≡ wordsOf end

@@ -9,11 +9,12 @@ use Prim.Native.Nat.{ℕ, _/_, _%_}
 use lib.Dec.{T}
 use lib.ListN.{length, replicate}
 use Rattle.laws.specs.Lists.{All, every, over}
+use Rattle.meaning.specs.declared.Memory.{Memory}
 use Rattle.meaning.specs.declared.Which.{Which}
 use Rattle.meaning.specs.declared.Answer.{Answer}
 use Rattle.meaning.specs.Words.{Byte, wordsOf, bytesOf}
 use Rattle.meaning.specs.Registers.{cell}
-use Rattle.meaning.specs.Grants.{Terms, mostGrants}
+use Rattle.meaning.specs.Grants.{Terms, mostGrants, grantsOf}
 use Rattle.meaning.specs.Answers.{answer, numberOf, settle}
 use Rattle.meaning.specs.Reader.{readAnswer, readLeaves}
 use Rattle.meaning.specs.Writer.{written, writeAnswer}
@@ -22,12 +23,12 @@ use Rattle.meaning.specs.Lister.{listAnswer, listLeaves}
 use Rattle.meaning.specs.ListingReader.{listingAnswer, listingLeaves}
 use Rattle.meaning.specs.Exported.{bufferFine, wordBufferFine, exportedRead, exportedReadLeaves, exportedWrite, exportedWriteLeaves, exportedList, exportedListLeaves, exportedReadListing, exportedReadListingLeaves, exportedWhichGrant}
 use Rattle.grants.specs.Kept.{Keeps, partOf, whichIn}
-use Rattle.keeping.specs.Keeping.{keptAfter}
+use Rattle.keeping.specs.Keeping.{keptOf}
 use Rattle.asking.specs.Asked.{capped}
 use Rattle.feeding.specs.Steps.{closes, leaves}
 use Rattle.engine.specs.declared.Engine.{Engine}
 use Rattle.engine.specs.declared.Closed.{Closed}
-use Rattle.engine.specs.Kept.{openedWith, fedWith, opening, standing}
+use Rattle.engine.specs.Kept.{openedWith, fedWith, opening, standing, pairJudged, behind}
 
 -- `reader::read` on the bytes of a batch, of a grant list and of a state answers a and leaves the bytes `left` of the state. The words
 -- over the front of the state's bytes are those that the definitions leave; bytes past the last whole word stay
@@ -55,14 +56,14 @@ ReadingListing text st a left =
 abbrev pub Querying : List ℕ → List ℕ → ℕ → Answer → Type 0
 Querying st grants c a = a ≡ queryAnswer (wordsOf st) (wordsOf grants) (cell c)
 
--- the test that all of them use: in the part of a role of what `keeping::keep` left of a grant list, in whatever room it was lent,
--- `grants::which` answers w to an address
-pub record Testing (ws : List ℕ) (role a : ℕ) (w : Which) : Type 0 where
+-- the test that all of them use: in the part of a role of what `keeping::place` left of a grant list, in whatever room it was lent,
+-- `grants::which` answers w to an address, in whichever memory or in one
+pub record Testing (ws : List ℕ) (m : Memory) (role a : ℕ) (w : Which) : Type 0 where
   pub starts : List ℕ
   pub lasts : List ℕ
   pub numbers : List ℕ
   pub room : (length starts ≡ mostGrants) × ((length lasts ≡ mostGrants) × (length numbers ≡ mostGrants))
-  pub told : let k = keptAfter ws starts lasts numbers in w ≡ whichIn (k .starts) (k .lasts) (k .numbers) (partOf (k .bounds) role) a
+  pub told : let k = keptOf (grantsOf ws) starts lasts numbers in w ≡ whichIn (k .starts) (k .lasts) (k .numbers) (partOf (k .bounds) role) m a
 
 -- ---- the engine
 
@@ -76,7 +77,7 @@ Feeding e w r = (g : Terms) → Keeps g (e .starts) (e .lasts) (capped (e .bound
 
 -- `engine::close` makes c of the engine e: an answer and a state
 abbrev pub Closing : Engine → Closed → Type 0
-Closing e c = (c .answer ≡ closes (standing e)) × (c .state ≡ leaves (standing e) (opening e))
+Closing e c = (c .answer ≡ closes (pairJudged e) (standing e)) × (c .state ≡ leaves (pairJudged e) (standing e) (behind e) (opening e))
 
 -- an engine that was opened with the bytes of a state and of a grant list, and then fed these words, one after another
 pub data Fed (st grants : List ℕ) : List ℕ → Engine → Type 0 where

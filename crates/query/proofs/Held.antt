@@ -1,4 +1,4 @@
--- Which cells hold an address: seven of them, and no other number.
+-- Which cells other than cell 1 hold an address: six of them, and no other number.
 -- Assumes nothing.
 use mathlib.Core.Path.{_≡_, refl, sym, ap, _∙_}
 use mathlib.Core.Logic.{_≢_}
@@ -11,7 +11,6 @@ use Rattle.laws.specs.Lists.{All, from}
 use Rattle.laws.proofs.Lists.{all-append, one-of-two}
 use Rattle.meaning.specs.declared.Cell.{Cell}
 use Rattle.meaning.specs.Registers.{cell, Content, nothing, Register, Row, Section, of3D, ofVideo, targetGroup, stage, sample, stageSection, sampleSection, overlay, scaler, sections3D, sectionsVideo, sections, registerAmong, registerIn, registerAt}
-use Rattle.rows_3d.proofs.Registers.{own-target}
 use Rattle.rows_video.specs.Scalers.{Scaler, first, second}
 use Rattle.rows_video.proofs.Registers.{own-scaler}
 use Rattle.query.specs.Held.{heldAs}
@@ -24,11 +23,7 @@ HeldBy c role = (v : ℕ) → registerAt (cell c) .holds v ≡ heldAs role v
 pub same-held : (x k role : ℕ) → x ≡ k → HeldBy k role → HeldBy x role
 same-held x k role e h = rw e h
 
--- ---- the seven
-
-pub target-held : HeldBy 1 1
-unfolding targetGroup
-target-held v = ap (λ (r : Register). r .holds v) (own-target .1 .0)
+-- ---- the six
 
 -- of either scaler, whose role is n + 2
 module _ (c n : ℕ) (s : Scaler c (suc (suc n))) where

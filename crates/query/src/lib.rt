@@ -1,9 +1,11 @@
 // The query: which grant admits the address in a cell of a state.
 ghost use mathlib.Core.Path.{_≡_};
+ghost use mathlib.Core.Logic.{_≢_};
 ghost use mathlib.Core.List.{List};
 ghost use Prim.Native.Nat.{ℕ, _<_};
 ghost use lib.Dec.{T};
 ghost use lib.ListN.{length};
+ghost use Rattle.meaning.specs.declared.Memory.the-variants.{Either};
 ghost use Rattle.meaning.specs.Words.{wordsOf};
 ghost use Rattle.meaning.specs.Registers.{registerAt};
 ghost use Rattle.meaning.specs.Grants.{grantsFine, termsOf};
@@ -22,24 +24,26 @@ use meaning::BAD_STATE;
 use meaning::CELLS;
 use meaning::Cell;
 use meaning::MOST_GRANTS;
+use meaning::Memory;
 use meaning::SUCCESS;
+use meaning::TARGET_CELL;
 use meaning::Which;
 
-// The role of the address that the register of a cell holds; 0 where it holds none.
+// The role of the scaler whose address the register of a cell holds; 0 where it holds none. Cell 1, which holds the target's, is asked about
+// elsewhere.
 fn role_of(cell: Cell) -> usize
-    ensures role { λ r. ⌜ ((v : ℕ) → registerAt cell .holds v ≡ heldAs r v) ⌝ }
+    ensures role { λ r. ⌜ (cell .0 ≢ 1 → (v : ℕ) → registerAt cell .holds v ≡ heldAs r v) ⌝ }
     ensures low { λ r. ⌜ r < 4 ⌝ }
 {
     let number = cell.0;
     match number {
-        1 => 1,
         89 | 90 | 93 => 2,
         96 | 97 | 100 => 3,
         _ => 0,
     }
 }
 
-// The grant that admits what a value holds in the register of a cell. Here and below `starts`, `lasts`, `numbers` and `bounds` are the
+// The grant that admits what a value holds in the register of a cell other than cell 1. Here and below `starts`, `lasts`, `numbers` and `bounds` are the
 // grants as they are kept.
 fn which_stored(
     cell: Cell,
@@ -50,27 +54,15 @@ fn which_stored(
     bounds: &Bounds,
 ) -> Which
     requires bounded { ⌜ Bounded (now bounds) ⌝ }
-    ensures stored { λ r. ⌜ ((ws : List ℕ) → T (grantsFine ws) → Names (termsOf ws) (now (starts .entry)) (now (lasts .entry)) (now (numbers .entry)) (now (bounds .entry)) → r ≡ whichStored (termsOf ws) cell value) ⌝ }
+    ensures stored { λ r. ⌜ ((ws : List ℕ) → Names (termsOf ws) (now (starts .entry)) (now (lasts .entry)) (now (numbers .entry)) (now (bounds .entry)) → cell .0 ≢ 1 → r ≡ whichStored (termsOf ws) Either cell value) ⌝ }
 {
     let role = role_of(cell);
     if role == 0 {
         return Which::Nobody;
     }
     let part = grants::part_of(bounds, role);
-    if role != 1 {
-        return grants::which(
-            starts,
-            lasts,
-            numbers,
-            part,
-            rows_video::scaler_address(value),
-        );
-    }
-    // No grant ends above 2^32, where such an address would lie.
-    if 0xffffff < value {
-        return Which::Nobody;
-    }
-    grants::which(starts, lasts, numbers, part, rows_3d::target_address(value))
+    let a = rows_video::scaler_address(value);
+    grants::which(starts, lasts, numbers, part, Memory::Either, a)
 }
 
 // The same for a cell of a state, if there is such a cell and it is marked.
@@ -91,6 +83,10 @@ fn which_at(
     }
     if states::mark(state, cell) == 0 {
         return Which::Nobody;
+    }
+    if cell.0 == TARGET_CELL {
+        let part = grants::part_of(bounds, 1);
+        return pair::which(state, starts, lasts, numbers, part);
     }
     let value = states::value(state, cell);
     which_stored(cell, value, starts, lasts, numbers, bounds)
@@ -125,9 +121,10 @@ pub fn which_grant(state: &[u8], grants: &[u8], cell: Cell) -> Answer
     let mut lasts = [0u32; MOST_GRANTS];
     let mut numbers = [0u8; MOST_GRANTS];
     let mut bounds = [0usize; BOUNDS];
-    if !keeping::keep(grants, &mut starts, &mut lasts, &mut numbers, &mut bounds) {
+    if !keeping::begin(grants, &mut bounds) {
         return refused(BAD_GRANTS);
     }
+    keeping::place(grants, &mut starts, &mut lasts, &mut numbers, &mut bounds);
     let found = which_at(state, cell, &starts, &lasts, &numbers, &bounds);
     Answer {
         reason: SUCCESS,

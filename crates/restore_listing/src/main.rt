@@ -11,11 +11,12 @@ use meaning::MOST_WRITTEN;
 use meaning::STATE_WORDS;
 
 // The grant of K1: K1 "role 1, start 00100000h, length 00080000h, reach 00080000h".
-const K1_GRANT: [u8; 16] = *b"\
+const K1_GRANT: [u8; 20] = *b"\
     \x01\x00\x00\x00\
     \x00\x00\x10\x00\
     \x00\x00\x08\x00\
     \x00\x00\x08\x00\
+    \x00\x00\x00\x00\
     ";
 
 // One byte more than a call takes: a longer input is refused by its length, without being held whole.

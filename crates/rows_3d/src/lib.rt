@@ -12,6 +12,7 @@ use grants::Part;
 use grants::Spans;
 use meaning::BAD_VALUE;
 use meaning::BIT_SET;
+use meaning::Memory;
 use meaning::NOT_GRANTED;
 use meaning::SUCCESS;
 use meaning::Which;
@@ -66,7 +67,8 @@ pub fn target_address_reason(
     requires inside { ⌜ part .to ≤ mostGrants ⌝ }
     ensures reason { λ r. ⌜ ((g : Terms) → Granting g 1 (now (starts .entry)) (now (lasts .entry)) part → r ≡ valueReason g (registerAt (cell 1)) value) ⌝ }
 {
-    let found = grants::which(starts, lasts, numbers, part, target_address(value));
+    let a = target_address(value);
+    let found = grants::which(starts, lasts, numbers, part, Memory::Either, a);
     if let Which::Nobody = found {
         return NOT_GRANTED;
     }

@@ -16,6 +16,7 @@ use grants::Part;
 use grants::Spans;
 use meaning::BAD_VALUE;
 use meaning::BIT_SET;
+use meaning::Memory;
 use meaning::NOT_GRANTED;
 use meaning::SUCCESS;
 use meaning::Which;
@@ -79,7 +80,8 @@ fn scaler_address_reason(
     if !memory_location(value) {
         return BAD_VALUE;
     }
-    let found = grants::which(starts, lasts, numbers, part, scaler_address(value));
+    let a = scaler_address(value);
+    let found = grants::which(starts, lasts, numbers, part, Memory::Either, a);
     if let Which::Nobody = found {
         return NOT_GRANTED;
     }

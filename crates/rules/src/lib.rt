@@ -20,11 +20,11 @@ pub fn alpha_constants(value: u32) -> bool
     value / 0x1000 % 0x800 <= 1024 && value % 0x800 <= 1024
 }
 
-// Location fields take only 0, the local frame buffer, by house choice.
+// The target's location is 0, the local frame buffer, or 1, the dynamic one; by house choice nothing else.
 pub fn location(value: u32) -> bool
     ensures rule { λ r. ⌜ r ≡ rules.location value ⌝ }
 {
-    value / 0x100000 % 4 == 0
+    value / 0x100000 % 4 <= 1
 }
 
 // Bytes per pixel of each format byte, 0 where it is reserved: a hex digit for each of the 256, sixteen to a row, the lowest in the lowest

@@ -1,39 +1,71 @@
 -- The writer's answer, by what its tests came to; and what a search tells that finds no bad cell.
 -- Assumes nothing.
 use mathlib.Core.Path.{_≡_, refl, sym, ap, _∙_}
-use mathlib.Core.Bool.{Bool, true, false}
+use mathlib.Core.Bool.{Bool, true, false, cond}
 use mathlib.Core.List.{List}
 use Prim.Native.Nat.{ℕ, _≤_, _<_}
 use native.Mathlib.Omega.{arith}
-use borrow.Author.Tests.{le-leb, lt-leb}
+use borrow.Author.Tests.{le-leb, lt-leb, eqb-true}
 use lib.Dec.{T, eqb}
 use lib.ListN.{length}
 use mir.Facts.{eqb-yes}
 use Rattle.laws.specs.Lists.{every, from}
 use Rattle.laws.proofs.Lists.{every-from}
+use Rattle.meaning.specs.declared.Cell.{Cell}
 use Rattle.meaning.specs.declared.Found.{Found}
 use Rattle.meaning.specs.declared.Found.the-variants.{At, Missing}
 use Rattle.meaning.specs.declared.Answer.{Answer}
 use Rattle.meaning.specs.Registers.{cells, firstVideo, cell, targetGroup, stage, sample, overlay, scaler, sections, registerAmong, registerIn, registerAt}
 use Rattle.meaning.specs.Grants.{Terms, grantsFine, termsOf}
 use Rattle.meaning.specs.State.{marked, wellFormed}
+use Rattle.meaning.specs.Pair.{targetCell, pairFine}
 use Rattle.meaning.specs.Answers.{badState, badGrants, noRoom, notWritable, success, answer}
-use Rattle.meaning.specs.Writer.{written, needFor, lowestBad, exceptAt, writeAnswer}
+use Rattle.meaning.specs.Writer.{written, needFor, lowestBad, withPair, exceptAt, writeAnswer}
 use Rattle.meaning.proofs.Writing.{need-is-length}
 use Rattle.meaning.proofs.Round.{Lowest, lowest-told}
 use Rattle.emitter_3d.specs.Emitted.{Narrow}
+use Rattle.grants.specs.declared.Part.{Part}
+use Rattle.grants.specs.Kept.{Names, partOf}
+use Rattle.pair.specs.Judged.{pairOf, fineIn}
+use Rattle.pair.proofs.Judged.{fine-is}
 use Rattle.search.specs.Search.{orEnd, lowest}
+use Rattle.writer.specs.Lowest.{lowestWith}
 
--- ---- what the number tells of the search among all cells
+-- ---- what the number tells of the search among all cells and of the pair
 
-module _ (g : Terms) (st : List ℕ) {low : ℕ} where
-  by-found : (f : Found) → Lowest g st 0 cells f → low ≡ orEnd f cells → (low < cells → (a : Answer) → answer notWritable low ≡ exceptAt f a) × (cells ≤ low → f ≡ Missing)
-  by-found (At c) is e = (λ l a. ap (answer notWritable) e, λ l. absurd (omega (arith, is .to)))
-  by-found Missing is e = (λ l. absurd (omega arith), λ l. refl)
+-- what a cell's number tells of a cell that was found, or of none
+abbrev Tells : Found → ℕ → Type 0
+Tells f low = (low < cells → (a : Answer) → answer notWritable low ≡ exceptAt f a) × (cells ≤ low → f ≡ Missing)
 
-  told : low ≡ lowest g st 0 cells → (low < cells → (a : Answer) → answer notWritable low ≡ exceptAt (lowestBad g st 0 cells) a) × (cells ≤ low → lowestBad g st 0 cells ≡ Missing)
+at-cell : (c : Cell) {low : ℕ} → c .0 < cells → low ≡ c .0 → Tells (At c) low
+at-cell c l e = (λ h a. ap (answer notWritable) e, λ h. absurd (omega arith))
+
+module _ (g : Terms) (st : List ℕ) where
+  -- cell 1 goes before any cell but cell 0
+  with-pair : (fine : Bool) (f : Found) → Lowest g st 0 cells f → {low : ℕ} → low ≡ lowestWith fine (orEnd f cells) → Tells (withPair fine f) low × (cells ≤ low → f ≡ Missing)
+  with-pair true (At c) is e = let same : lowestWith true (c .0) ≡ c .0 = as-found (c .0) (eqb (c .0) 0) refl in (at-cell c (is .to) (e ∙ same), λ h. absurd (omega (arith, is .to)))
+    where
+      as-found : (n : ℕ) (b : Bool) → eqb n 0 ≡ b → cond b 0 n ≡ n
+      as-found n true z = sym (eqb-true n 0 z)
+      as-found n false z = refl
+  with-pair true Missing is e = ((λ h. absurd (omega arith), λ h. refl), λ h. refl)
+  with-pair false (At c) is e = by (eqb (c .0) 0) refl e
+    where
+      by : (b : Bool) → eqb (c .0) 0 ≡ b → {low : ℕ} → low ≡ cond b 0 1 → Tells (cond b (At c) (At targetCell)) low × (cells ≤ low → At c ≡ Missing)
+      by true z x = (at-cell c (is .to) (x ∙ sym (eqb-true (c .0) 0 z)), λ h. absurd (omega arith))
+      by false z x = (at-cell targetCell (omega arith) x, λ h. absurd (omega arith))
+  with-pair false Missing is e = (at-cell targetCell (omega arith) e, λ h. absurd (omega arith))
+
+  told : {low : ℕ} → low ≡ lowestWith (pairFine g st) (lowest g st 0 cells)
+      → Tells (withPair (pairFine g st) (lowestBad g st 0 cells)) low × (cells ≤ low → lowestBad g st 0 cells ≡ Missing)
   unfolding lowest
-  told e = by-found (lowestBad g st 0 cells) (lowest-told g st 0 cells) e
+  told e = with-pair (pairFine g st) (lowestBad g st 0 cells) (lowest-told g st 0 cells) e
+
+-- what is judged of the pair under kept grants is what the definitions say of it
+pub paired : (ws st : List ℕ) → T (grantsFine ws) → (starts lasts numbers bounds : List ℕ) → Names (termsOf ws) starts lasts numbers bounds
+    → {found low : ℕ} {part : Part} → found ≡ lowest (termsOf ws) st 0 cells → part ≡ partOf bounds 1 → low ≡ lowestWith (fineIn starts lasts numbers part (pairOf st)) found
+    → low ≡ lowestWith (pairFine (termsOf ws) st) (lowest (termsOf ws) st 0 cells)
+paired ws st fine starts lasts numbers bounds names e its is = is ∙ rw (e, its, fine-is ws fine starts lasts numbers bounds names st)
 
 -- ---- where no cell is bad, marked 3D values are narrow
 
@@ -49,7 +81,7 @@ wide-3D : (c : ℕ) → c < firstVideo → registerAt (cell c) .width ≡ 24
 unfolding asWide
 wide-3D c h = eqb-yes (every-from asWide 0 firstVideo tested c (omega arith) (omega arith))
 
-pub none-narrow : (g : Terms) (st : List ℕ) {low : ℕ} → low ≡ lowest g st 0 cells → cells ≤ low → Narrow st
+pub none-narrow : (g : Terms) (st : List ℕ) {low : ℕ} → low ≡ lowestWith (pairFine g st) (lowest g st 0 cells) → cells ≤ low → Narrow st
 none-narrow g st e l c h m =
     let fine : Lowest g st 0 cells Missing = rw (told g st e .1 l) at (lowest-told g st 0 cells) in
     rw (wide-3D c h) at (fine c (omega arith) (omega arith) m .narrow)
@@ -74,16 +106,16 @@ module _ (st gs : List ℕ) (room : ℕ) where
   unfolding writeAnswer
   refused-grants e f = rw (e, f)
 
-  module _ (e : wellFormed st ≡ true) (f : grantsFine gs ≡ true) {low : ℕ} (is : low ≡ lowest (termsOf gs) st 0 cells) where
+  module _ (e : wellFormed st ≡ true) (f : grantsFine gs ≡ true) {low : ℕ} (is : low ≡ lowestWith (pairFine (termsOf gs) st) (lowest (termsOf gs) st 0 cells)) where
     pub refused-cell : low < cells → answer notWritable low ≡ writeAnswer st gs room
     unfolding writeAnswer
-    refused-cell l = rw (e, f) (told (termsOf gs) st is .0 l _)
+    refused-cell l = rw (e, f) (told (termsOf gs) st is .0 .0 l _)
 
     module _ (l : cells ≤ low) {need : ℕ} (n : need ≡ length (written st)) where
       pub refused-room : room < need → answer noRoom 0 ≡ writeAnswer st gs room
       unfolding writeAnswer
-      refused-room h = rw (e, f, told (termsOf gs) st is .1 l, lt-leb (length (written st)) room (omega arith))
+      refused-room h = rw (e, f, told (termsOf gs) st is .0 .1 l, lt-leb (length (written st)) room (omega arith))
 
       pub done : need ≤ room → answer success need ≡ writeAnswer st gs room
       unfolding writeAnswer
-      done h = rw (e, f, told (termsOf gs) st is .1 l, le-leb (length (written st)) room (omega arith), n)
+      done h = rw (e, f, told (termsOf gs) st is .0 .1 l, le-leb (length (written st)) room (omega arith), n)

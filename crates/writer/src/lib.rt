@@ -1,12 +1,19 @@
 // The writer: a state as the batch that reaches it from the empty state.
 ghost use mathlib.Core.Path.{_≡_};
-ghost use Prim.Native.Nat.{_/_};
+ghost use Prim.Native.Nat.{_/_, _≤_};
 ghost use lib.ListN.{length};
 ghost use Rattle.laws.specs.Lists.{over};
 ghost use Rattle.meaning.specs.Words.{wordsOf, bytesOf};
+ghost use Rattle.meaning.specs.Grants.{mostGrants};
+ghost use Rattle.meaning.specs.State.{stateWords};
 ghost use Rattle.meaning.specs.Answers.{answer, settle};
 ghost use Rattle.meaning.specs.Writer.{written, writeAnswer};
+ghost use Rattle.pair.specs.Judged.{pairOf, fineIn};
+ghost use Rattle.writer.specs.Lowest.{lowestWith};
 use grants::BOUNDS;
+use grants::Numbers;
+use grants::Part;
+use grants::Spans;
 use meaning::Answer;
 use meaning::BAD_GRANTS;
 use meaning::BAD_STATE;
@@ -15,12 +22,35 @@ use meaning::MOST_GRANTS;
 use meaning::NO_ROOM;
 use meaning::NOT_WRITABLE;
 use meaning::SUCCESS;
+use meaning::TARGET_CELL;
 
 // A refusal that has no place.
 fn refused(reason: u32) -> Answer
     ensures answer { λ r. ⌜ r ≡ answer reason 0 ⌝ }
 {
     Answer { reason, place: 0 }
+}
+
+// The lowest cell that may not be written, or 101: what the search found, or cell 1 for a pair that is not fine, where cell 0 may be written.
+fn with_pair(
+    found: usize,
+    state: &[u8],
+    starts: &Spans,
+    lasts: &Spans,
+    numbers: &Numbers,
+    part: Part,
+) -> usize
+    requires whole { ⌜ length (wordsOf (now state)) ≡ stateWords ⌝ }
+    requires inside { ⌜ part .to ≤ mostGrants ⌝ }
+    ensures lowest { λ r. ⌜ r ≡ lowestWith (fineIn (now (starts .entry)) (now (lasts .entry)) (now (numbers .entry)) part (pairOf (wordsOf (now (state .entry))))) found ⌝ }
+{
+    if found == 0 {
+        return 0;
+    }
+    if !pair::fine(state, starts, lasts, numbers, part) {
+        return TARGET_CELL;
+    }
+    found
 }
 
 // Writes the batch: 1 and 2 as the reader has them, 12 at the lowest cell that may not be written, 11 if the output is too short,
@@ -37,10 +67,13 @@ pub fn write(state: &[u8], grants: &[u8], out: &mut [u8]) -> Answer
     let mut lasts = [0u32; MOST_GRANTS];
     let mut numbers = [0u8; MOST_GRANTS];
     let mut bounds = [0usize; BOUNDS];
-    if !keeping::keep(grants, &mut starts, &mut lasts, &mut numbers, &mut bounds) {
+    if !keeping::begin(grants, &mut bounds) {
         return refused(BAD_GRANTS);
     }
-    let lowest = search::lowest_bad(state, &starts, &lasts, &numbers, &bounds);
+    keeping::place(grants, &mut starts, &mut lasts, &mut numbers, &mut bounds);
+    let found = search::lowest_bad(state, &starts, &lasts, &numbers, &bounds);
+    let part = grants::part_of(&bounds, 1);
+    let lowest = with_pair(found, state, &starts, &lasts, &numbers, part);
     if lowest < CELLS {
         return Answer {
             reason: NOT_WRITABLE,

@@ -1,7 +1,10 @@
 -- By the reason.
 -- Assumes nothing.
-use Rattle.engine.specs.Kept.{standing, opening}
-use Rattle.engine.proofs.Closing.{close-refused, close-whole}
+use mathlib.Core.Path.{_≡_, refl}
+use Rattle.engine.specs.declared.Engine.{Engine}
+use Rattle.engine.specs.Kept.{closingReason, reasonBehind, standing, opening, pairJudged, behind}
+use Rattle.engine.proofs.Closing.{told-of, close-refused, close-whole}
+use mir.Facts.{ltb-yes}
 use borrow.Author.Needs.{needs}
 use Rattle.engine.proofs.close.Statement.{statement}
 use Rattle.engine.proofs.close.Tie as tie
@@ -10,25 +13,45 @@ cast-place : tie.Need-cast-place
 cast-place c = search needs
 
 closing-reason-requires : tie.Need-closing-reason-requires
-closing-reason-requires c κs = search needs
+closing-reason-requires c κs = tt
+
+part-of-requires : tie.Need-part-of-requires
+part-of-requires c κs = ltb-yes tt
+
+reason-behind-requires : tie.Need-reason-behind-requires
+reason-behind-requires c κs = (refl, c .before .before .before .before .before .before .before .before .part-of .ensures .1)
+
+-- once the reason is told: the engine, and what the reason is of it
+module _ (x : tie.After-reason-behind) where
+  abbrev engine : Engine
+  engine = x .before .before .before .before .before .before .before .before .before .before .before .before .before .args .t1
+
+  told : x .reason-behind .result ≡ reasonBehind (closingReason (engine .reason) (engine .left)) (pairJudged engine)
+  told = told-of engine (x .before .before .before .before .before .before .before .before .before .before .before .before .closing-reason .ensures) (x .before .before .before .before .before .before .before .before .before .part-of .ensures .0) (x .reason-behind .ensures .0)
 
 lay-requires : tie.Need-lay-requires
-lay-requires c κs = search needs
+lay-requires c κs = c .before .before .before .before .before .reason-behind .ensures .1 .1
 
 returns : tie.Need-returns
 returns c =
-    let e = c .before .before .before .before .before .before .before .args .t1 in
-    close-refused (standing e) (opening e) (c .before .before .before .before .before .before .closing-reason .ensures) (c .before .before .before .before .before .if1 .taken) (c .lay .ensures)
-
-lay-requires-2 : tie.Need-lay-requires-2
-lay-requires-2 c κs = search needs
+    let x = c .before .before .before .before .before .before in
+    let e = engine x in
+    close-refused (pairJudged e) (standing e) (behind e) (opening e) (told x) (c .before .before .before .before .before .if1 .taken) (c .lay .ensures .0)
 
 returns-2 : tie.Need-returns-2
 returns-2 c =
-    let e = c .before .before .before .before .before .before .before .args .t1 in
-    close-whole (standing e) (opening e) (c .before .before .before .before .before .before .closing-reason .ensures) (c .before .before .before .before .before .if1 .left) (c .lay2 .ensures)
+    let x = c .before in
+    let e = engine x in
+    close-whole (pairJudged e) (standing e) (behind e) (opening e) (told x) (c .if1 .left) (x .reason-behind .ensures .1 .0 (c .if1 .left))
 
 pub close-spec : {M : Type 1} → statement M
 close-spec =
     tie.close
-    (tie.spec cast-place closing-reason-requires lay-requires returns lay-requires-2 returns-2)
+    (tie.spec
+    cast-place
+    closing-reason-requires
+    part-of-requires
+    reason-behind-requires
+    lay-requires
+    returns
+    returns-2)

@@ -1,7 +1,6 @@
 -- By the tests, in their order.
 -- Assumes nothing.
-use Rattle.engine.proofs.Feeding.{fed-stays, fed-full, fed-refused, fed-unstored, fed-stored}
-use borrow.Author.Needs.{needs}
+use Rattle.engine.proofs.Feeding.{one-more, at-cell, fed-stays, fed-full, fed-refused, fed-unstored, fed-stored}
 use Rattle.engine.proofs.feed.Statement.{statement}
 use Rattle.engine.proofs.feed.Tie as tie
 
@@ -12,7 +11,7 @@ returns-2 : tie.Need-returns-2
 returns-2 c = λ g k. fed-full g (c .before .before .args .t1) (c .before .before .args .word) (c .before .if1 .left) (c .if2 .taken)
 
 ask-requires : tie.Need-ask-requires
-ask-requires c κs = search needs
+ask-requires c κs = tt
 
 returns-3 : tie.Need-returns-3
 returns-3 c =
@@ -22,7 +21,7 @@ returns-3 c =
     fed-refused g e w (c .before .before .before .before .before .before .before .before .before .if1 .left) (c .before .before .before .before .before .before .before .before .if2 .left) (c .before .before .ask .ensures g k) (c .if3 .taken)
 
 add-engine : tie.Need-add-engine
-add-engine c = search needs
+add-engine c = one-more _ (c .before .before .before .before .before .before .before .before .if2 .left)
 
 returns-4 : tie.Need-returns-4
 returns-4 c =
@@ -32,13 +31,13 @@ returns-4 c =
     fed-unstored g e w (c .before .before .before .before .before .before .before .before .before .before .if1 .left) (c .before .before .before .before .before .before .before .before .before .if2 .left) (c .before .before .before .ask .ensures g k) (c .before .if3 .left) (c .if4 .taken)
 
 mul-engine : tie.Need-mul-engine
-mul-engine c = search needs
+mul-engine c = at-cell _ (c .if4 .left)
 
 element-write-engine : tie.Need-element-write-engine
-element-write-engine c = search needs
+element-write-engine c = c .if4 .left
 
 set-mark-requires : tie.Need-set-mark-requires
-set-mark-requires c κs = search needs
+set-mark-requires c κs = c .before .if4 .left
 
 returns-5 : tie.Need-returns-5
 returns-5 c =

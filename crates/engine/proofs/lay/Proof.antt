@@ -57,7 +57,7 @@ returns : tie.Need-returns Inv-loop μ-loop
 returns c =
     let l = c .before in
     let a = l .before .before .args in
-    all-laid (a .values .now) (a .marks .now) (l .loop .state) (l .loop .c) (omega arith) (omega arith) (l .loop .inv .1)
+    (all-laid (a .values .now) (a .marks .now) (l .loop .state) (l .loop .c) (omega arith) (omega arith) (l .loop .inv .1), l .loop .inv .1 .size)
 
 pub lay-spec : {M : Type 1} → statement M
 lay-spec =

@@ -3,7 +3,7 @@
 use mathlib.Core.Path.{_≡_, refl, sym, ap, _∙_}
 use mathlib.Core.Logic.{inl, inr}
 use mathlib.Core.List.{List, _∷_}
-use Prim.Native.Nat.{ℕ, suc, _+_, _*_, _-_, _/_, _%_, _^_, _≤_, _<_}
+use Prim.Native.Nat.{ℕ, suc, _+_, _*_, _-_, _/_, _%_, _≤_, _<_}
 use native.Mathlib.Omega.{arith}
 use borrow.Author.Needs.{needs}
 use borrow.Author.Tests.{le-leb, lt-leb}
@@ -12,6 +12,8 @@ use lib.ListN.{length, getD, drop, set}
 use Rattle.meaning.specs.Words.{wordsOf}
 use Rattle.meaning.specs.Grants.{Grant, mostGrants, grantsOf, grantsFine}
 use Rattle.meaning.proofs.Bytes.{length-words}
+use Rattle.meaning.proofs.Fitter.{InMemory}
+use Rattle.grants.specs.Kept.{bearing}
 use Rattle.keeping.specs.Keeping as kept
 use Rattle.keeping.specs.Keeping.{Kept, placeAll, beginnings, keptOf}
 use Rattle.numbering.proofs.Grants.{grantAt, grant-read, grants-on, grants-end, fine-list}
@@ -29,47 +31,47 @@ unfolding keptOf
 first ws starts lasts numbers bounds fine begun = rw begun (record { ready = ready-first ws fine; placed = refl })
 
 module _ {ws starts₀ lasts₀ numbers₀ : List ℕ} {k : Kept} {number i : ℕ} (runs : Runs ws starts₀ lasts₀ numbers₀ k number i) where
-  module _ (h : i + 4 ≤ length ws) where
-    next-ready : Ready (grantAt ws i ∷ grantsOf (drop (i + 4) ws)) (k .bounds)
+  module _ (h : i + 5 ≤ length ws) where
+    next-ready : Ready (grantAt ws i ∷ grantsOf (drop (i + 5) ws)) (k .bounds)
     next-ready = rw (grants-on ws i h) at (runs .ready)
 
-    turn : (after : Kept) → after ≡ kept.place number (grantAt ws i) k → Runs ws starts₀ lasts₀ numbers₀ after (number + 1) (i + 4)
+    turn : (after : Kept) → after ≡ kept.place number (grantAt ws i) k → Runs ws starts₀ lasts₀ numbers₀ after (number + 1) (i + 5)
     unfolding placeAll
     turn after e =
         let next : number + 1 ≡ suc number = omega arith in
         rw e (record {
-          ready = ready-next number (grantAt ws i) k (grantsOf (drop (i + 4) ws)) next-ready;
+          ready = ready-next number (grantAt ws i) k (grantsOf (drop (i + 5) ws)) next-ready;
           placed = rw next (sym (ap (λ (gs : List Grant). placeAll number gs k) (grants-on ws i h)) ∙ runs .placed);
         })
 
     -- a grant that is kept, by the words as they were read
-    kept-turn : (role start long reach : ℕ) → record { role = role; start = start; length = long; reach = reach } ≡ grantAt ws i → reach ≤ long
+    kept-turn : (role start long reach memory : ℕ) → record { role = role; start = start; length = long; reach = reach; memory = memory } ≡ grantAt ws i → reach ≤ long
         → (starts lasts numbers bounds : List ℕ)
         → starts ≡ set (k .starts) (getD (k .bounds) (4 + role) 0) start
         → lasts ≡ set (k .lasts) (getD (k .bounds) (4 + role) 0) (start + (long - reach))
-        → numbers ≡ set (k .numbers) (getD (k .bounds) (4 + role) 0) number
+        → numbers ≡ set (k .numbers) (getD (k .bounds) (4 + role) 0) (bearing number memory)
         → bounds ≡ set (k .bounds) (4 + role) (getD (k .bounds) (4 + role) 0 + 1)
-        → Runs ws starts₀ lasts₀ numbers₀ (record { starts = starts; lasts = lasts; numbers = numbers; bounds = bounds }) (number + 1) (i + 4)
-    kept-turn role start long reach is fits starts lasts numbers bounds s l n b =
+        → Runs ws starts₀ lasts₀ numbers₀ (record { starts = starts; lasts = lasts; numbers = numbers; bounds = bounds }) (number + 1) (i + 5)
+    kept-turn role start long reach memory is fits starts lasts numbers bounds s l n b =
         turn _
         (rw (s, l, n, b)
-        (sym (place-kept number (record { role = role; start = start; length = long; reach = reach }) k (le-leb reach long fits))
+        (sym (place-kept number (record { role = role; start = start; length = long; reach = reach; memory = memory }) k (le-leb reach long fits))
         ∙ ap (λ (g : Grant). kept.place number g k) is))
 
     -- and one that is not
     past-turn : getD ws (i + 2) 0 < getD ws (i + 3) 0 → (starts lasts numbers bounds : List ℕ)
         → starts ≡ k .starts → lasts ≡ k .lasts → numbers ≡ k .numbers → bounds ≡ k .bounds
-        → Runs ws starts₀ lasts₀ numbers₀ (record { starts = starts; lasts = lasts; numbers = numbers; bounds = bounds }) (number + 1) (i + 4)
+        → Runs ws starts₀ lasts₀ numbers₀ (record { starts = starts; lasts = lasts; numbers = numbers; bounds = bounds }) (number + 1) (i + 5)
     past-turn short starts lasts numbers bounds s l n b =
         turn _ (rw (s, l, n, b) (sym (place-past number (grantAt ws i) k (lt-leb (getD ws (i + 3) 0) (getD ws (i + 2) 0) short))))
 
-  ended : length ws < i + 4 → k ≡ keptOf (grantsOf ws) starts₀ lasts₀ numbers₀
+  ended : length ws < i + 5 → k ≡ keptOf (grantsOf ws) starts₀ lasts₀ numbers₀
   unfolding placeAll
   ended over = sym (ap (λ (gs : List Grant). placeAll number gs k) (grants-end ws i over)) ∙ runs .placed
 
 abbrev Inv-loop : tie.InvT-loop
 Inv-loop grants starts₀ lasts₀ numbers₀ bounds₀ words number₀ i₀ starts lasts numbers bounds number i =
-    (i ≤ length grants / 4) × (i ≡ 4 * number) × (length grants / 4 % 4 ≡ 0)
+    (i ≤ length grants / 4) × (i ≡ 5 * number) × (length grants / 4 % 5 ≡ 0)
     × Runs (wordsOf grants) starts₀ lasts₀ numbers₀ (record { starts = starts; lasts = lasts; numbers = numbers; bounds = bounds }) number i
 
 abbrev μ-loop : tie.MeasureT-loop
@@ -87,10 +89,10 @@ module _ (c : tie.In-loop Inv-loop μ-loop) where
   abbrev g : Grant
   g = grantAt (ws-of (c .before)) (c .before .loop .i)
 
-  whole : c .before .loop .i + 4 ≤ length (ws-of (c .before))
+  whole : c .before .loop .i + 5 ≤ length (ws-of (c .before))
   whole = omega (arith, length-words (c .before .before .before .args .grants .now))
 
-  fine-here : (1 ≤ g .role) × (g .role ≤ 3) × (g .start + g .length ≤ 2 ^ 32) × (1 ≤ g .reach)
+  fine-here : InMemory g
   fine-here = first-fine (c .before .loop .number) g (now-of (c .before)) _ (next-ready (c .before .loop .inv .3) whole)
 
   room-here : getD (c .before .loop .bounds) (4 + g .role) 0 < mostGrants
@@ -131,7 +133,7 @@ mul-at : tie.Need-mul-at Inv-loop μ-loop
 mul-at c = omega arith
 
 element-copy-out-at : tie.Need-element-copy-out-at Inv-loop μ-loop
-element-copy-out-at c = omega (arith, fine-here (c .before .before .before .before))
+element-copy-out-at c = omega (arith, fine-here (c .before .before .before .before) .high)
 
 add-word-3 : tie.Need-add-word-3 Inv-loop μ-loop
 add-word-3 c = omega arith
@@ -146,7 +148,9 @@ element-write-starts : tie.Need-element-write-starts Inv-loop μ-loop
 element-write-starts c = omega (arith, room-read (c .before .before))
 
 add-lasts : tie.Need-add-lasts Inv-loop μ-loop
-add-lasts c = omega (arith, fine-here (c .before .before .before .before .before .before))
+add-lasts c =
+    let rules = fine-here (c .before .before .before .before .before .before) in
+    omega (arith, rules .end, rules .reach)
 
 mul-lasts : tie.Need-mul-lasts Inv-loop μ-loop
 mul-lasts c = omega (arith, room-read (c .before .before))
@@ -154,25 +158,47 @@ mul-lasts c = omega (arith, room-read (c .before .before))
 element-write-lasts : tie.Need-element-write-lasts Inv-loop μ-loop
 element-write-lasts c = omega (arith, room-read (c .before .before))
 
+add-word-4 : tie.Need-add-word-4 Inv-loop μ-loop
+add-word-4 c = omega arith
+
+word-requires-5 : tie.Need-word-requires-5 Inv-loop μ-loop
+word-requires-5 c κs = search needs
+
+-- the number and the memory are small, so that a byte bears both
+module _ (c : tie.After-word5 Inv-loop μ-loop) where
+  few-here : c .before .before .before .before .before .before .before .before .loop .number < 64
+  few-here =
+      let start = c .before .before .before .before .before .before .before .before .before .before in
+      omega (arith, fine-list (wordsOf (start .args .grants .now)) (start .pre .0) .1, length-words (start .args .grants .now))
+
+  memory-here : c .word5 .result ≤ 1
+  memory-here = rw (c .word5 .ensures) (fine-here (c .before .before .before .before .before .before .before) .memory)
+
+mul-numbers : tie.Need-mul-numbers Inv-loop μ-loop
+mul-numbers c = omega (arith, memory-here c)
+
+add-numbers : tie.Need-add-numbers Inv-loop μ-loop
+add-numbers c = omega (arith, few-here c, memory-here c)
+
 cast-numbers : tie.Need-cast-numbers Inv-loop μ-loop
-cast-numbers c =
-    let start = c .before .before .before .before .before .before .before .before .before in
-    omega (arith, fine-list (wordsOf (start .args .grants .now)) (start .pre .0) .1, length-words (start .args .grants .now), room-read (c .before .before))
+cast-numbers c = omega (arith, few-here c, memory-here c)
 
 element-write-numbers : tie.Need-element-write-numbers Inv-loop μ-loop
-element-write-numbers c = omega (arith, room-read (c .before .before))
+element-write-numbers c = omega (arith, room-read (c .before .before .before))
 
 add-bounds : tie.Need-add-bounds Inv-loop μ-loop
-add-bounds c = omega (arith, room-read (c .before .before))
+add-bounds c = omega (arith, room-read (c .before .before .before))
 
 mul-bounds : tie.Need-mul-bounds Inv-loop μ-loop
 mul-bounds c = omega arith
 
 element-write-bounds : tie.Need-element-write-bounds Inv-loop μ-loop
-element-write-bounds c = omega (arith, fine-here (c .before .before .before .before .before .before))
+element-write-bounds c = omega (arith, fine-here (c .before .before .before .before .before .before .before) .high)
 
 add-number : tie.Need-add-number Inv-loop μ-loop
-add-number c = omega arith
+add-number c =
+    let start = c .before .before .before .before .before .before in
+    omega (arith, fine-list (wordsOf (start .args .grants .now)) (start .pre .0) .1, length-words (start .args .grants .now))
 
 add-i : tie.Need-add-i Inv-loop μ-loop
 add-i c = omega arith
@@ -191,8 +217,8 @@ loop-again c =
       omega arith,
       elim (k .came) [
         | inl w ↦
-            let is = grant-read (ws-of l) (l .loop .i) _ _ _ _ (w .1 .ensures) (w .3 .ensures) (c .before .before .word .ensures) (c .before .word2 .ensures) in
-            kept-turn runs (whole in-loop) _ _ _ _ is (w .0 .taken) (k .starts) (k .lasts) (k .numbers) (k .bounds) (w .4) (w .5) (w .6) (w .7)
+            let is = grant-read (ws-of l) (l .loop .i) _ _ _ _ _ (w .1 .ensures) (w .3 .ensures) (c .before .before .word .ensures) (c .before .word2 .ensures) (w .4 .ensures) in
+            kept-turn runs (whole in-loop) _ _ _ _ _ is (w .0 .taken) (k .starts) (k .lasts) (k .numbers) (k .bounds) (w .5) (w .6) (w .7) (w .8)
         | inr w ↦ past-turn runs (whole in-loop) (omega arith) (k .starts) (k .lasts) (k .numbers) (k .bounds) (w .1) (w .2) (w .3) (w .4)
       ],
     )
@@ -226,6 +252,10 @@ place-spec =
     add-lasts
     mul-lasts
     element-write-lasts
+    add-word-4
+    word-requires-5
+    mul-numbers
+    add-numbers
     cast-numbers
     element-write-numbers
     add-bounds

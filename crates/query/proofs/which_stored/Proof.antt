@@ -1,8 +1,7 @@
--- By the role: no address, a scaler's, or the target's, which a value of more than 24 bits takes past every grant.
+-- By the role: no address, or a scaler's.
 -- Assumes nothing.
-use native.Mathlib.Omega.{arith}
 use borrow.Author.Needs.{needs}
-use Rattle.query.proofs.Asked.{part-inside, stored-none, stored-high, stored-target, stored-scaler}
+use Rattle.query.proofs.Asked.{part-inside, stored-none, stored-scaler}
 use Rattle.query.proofs.which_stored.Statement.{statement}
 use Rattle.query.proofs.which_stored.Tie as tie
 
@@ -10,9 +9,9 @@ role-of-requires : tie.Need-role-of-requires
 role-of-requires c κs = search needs
 
 returns : tie.Need-returns
-returns c ws fine names =
+returns c ws names other =
     let a = c .before .before .args in
-    stored-none (a .cell) (a .value) _ (c .before .role-of .ensures .0) ws (c .if1 .taken)
+    stored-none (a .cell) (a .value) _ (c .before .role-of .ensures .0 other) ws (c .if1 .taken)
 
 part-of-requires : tie.Need-part-of-requires
 part-of-requires c κs = search needs
@@ -22,33 +21,15 @@ scaler-address-requires c κs = search needs
 
 which-requires : tie.Need-which-requires
 which-requires c κs =
-    let r = c .before .before .before .before .role-of .ensures in
-    part-inside (c .before .before .before .before .before .args .bounds .now) (c .before .before .before .before .before .pre) _ (r .1) (c .before .before .part-of .ensures)
+    let start = c .before .before .before .before in
+    part-inside (start .args .bounds .now) (start .pre) _ (c .before .before .before .role-of .ensures .1) (c .before .part-of .ensures)
 
 returns-2 : tie.Need-returns-2
-returns-2 c ws fine names =
-    let a = c .before .before .before .before .before .before .args in
-    let r = c .before .before .before .before .before .role-of .ensures in
-    stored-scaler (a .cell) (a .value) _ (r .0) ws (a .starts .now) (a .lasts .now) (a .numbers .now) (a .bounds .now) names (c .before .before .before .part-of .ensures) (r .1) (c .before .before .before .before .if1 .left) (c .before .before .if2 .taken) (c .before .scaler-address .ensures) (c .which .ensures)
-
-returns-3 : tie.Need-returns-3
-returns-3 c ws fine names =
+returns-2 c ws names other =
     let a = c .before .before .before .before .before .args in
-    stored-high (a .cell) (a .value) _ (c .before .before .before .before .role-of .ensures .0) ws (c .before .if2 .left) (omega arith) fine
-
-target-address-requires : tie.Need-target-address-requires
-target-address-requires c κs = search needs
-
-which-requires-2 : tie.Need-which-requires-2
-which-requires-2 c κs =
-    let r = c .before .before .before .before .before .role-of .ensures in
-    part-inside (c .before .before .before .before .before .before .args .bounds .now) (c .before .before .before .before .before .before .pre) _ (r .1) (c .before .before .before .part-of .ensures)
-
-returns-4 : tie.Need-returns-4
-returns-4 c ws fine names =
-    let a = c .before .before .before .before .before .before .before .args in
-    let r = c .before .before .before .before .before .before .role-of .ensures in
-    stored-target (a .cell) (a .value) _ (r .0) ws (a .starts .now) (a .lasts .now) (a .numbers .now) (a .bounds .now) names (c .before .before .before .before .part-of .ensures) (r .1) (c .before .before .before .if2 .left) (c .before .target-address .ensures) (c .which2 .ensures)
+    let r = c .before .before .before .before .role-of .ensures in
+    stored-scaler (a .cell) (a .value) _ (r .0 other) ws (a .starts .now) (a .lasts .now) (a .numbers .now) (a .bounds .now) names
+    (c .before .before .part-of .ensures) (r .1) (c .before .before .before .if1 .left) (c .before .scaler-address .ensures) (c .which .ensures)
 
 pub which-stored-spec : {M : Type 1} → statement M
 which-stored-spec =
@@ -59,8 +40,4 @@ which-stored-spec =
     part-of-requires
     scaler-address-requires
     which-requires
-    returns-2
-    returns-3
-    target-address-requires
-    which-requires-2
-    returns-4)
+    returns-2)

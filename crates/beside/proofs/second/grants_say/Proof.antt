@@ -4,10 +4,10 @@ use Rattle.beside.proofs.second.grants_say.Statement.{statement}
 use Rattle.beside.proofs.second.grants_say.Tie as tie
 
 abbrev Inv-loop : tie.InvT-loop
-Inv-loop desk whose address n said₀ i₀ said i = Unit
+Inv-loop desk whose memories address n said₀ i₀ said i = Unit
 
 abbrev μ-loop : tie.MeasureT-loop
-μ-loop desk whose address n said₀ i₀ said i = n - i
+μ-loop desk whose memories address n said₀ i₀ said i = n - i
 
 len-requires : tie.Need-len-requires Inv-loop μ-loop
 len-requires c κs = search needs

@@ -4,28 +4,16 @@ use Rattle.cases.proofs.tally.tell_reasons.Statement.{statement}
 use Rattle.cases.proofs.tally.tell_reasons.Tie as tie
 
 abbrev Inv-loop : tie.InvT-loop
-Inv-loop desk reason₀ t3 t4 reason = Unit
+Inv-loop desk reason₀ reason = Unit
 
 abbrev μ-loop : tie.MeasureT-loop
-μ-loop desk reason₀ t3 t4 reason = 12 - reason
+μ-loop desk reason₀ reason = 12 - reason
 
 loop-holds : tie.Need-loop-holds Inv-loop μ-loop
 loop-holds c = search needs
 
-slice-aggregate-say : tie.Need-slice-aggregate-say Inv-loop μ-loop
-slice-aggregate-say c = search needs
-
-say-requires : tie.Need-say-requires Inv-loop μ-loop
-say-requires c κs = search needs
-
-slice-aggregate-say-count : tie.Need-slice-aggregate-say-count Inv-loop μ-loop
-slice-aggregate-say-count c = search needs
-
-say-count-requires : tie.Need-say-count-requires Inv-loop μ-loop
-say-count-requires c κs = search needs
-
-end-line-requires : tie.Need-end-line-requires Inv-loop μ-loop
-end-line-requires c κs = search needs
+tell-reason-requires : tie.Need-tell-reason-requires Inv-loop μ-loop
+tell-reason-requires c κs = search needs
 
 add-reason : tie.Need-add-reason Inv-loop μ-loop
 add-reason c = search needs
@@ -35,6 +23,9 @@ loop-less c = search needs
 
 loop-again : tie.Need-loop-again Inv-loop μ-loop
 loop-again c = search needs
+
+tell-reason-requires-2 : tie.Need-tell-reason-requires-2 Inv-loop μ-loop
+tell-reason-requires-2 c κs = search needs
 
 returns : tie.Need-returns Inv-loop μ-loop
 returns c = search needs
@@ -46,12 +37,9 @@ tell-reasons-spec =
     Inv-loop
     μ-loop
     loop-holds
-    slice-aggregate-say
-    say-requires
-    slice-aggregate-say-count
-    say-count-requires
-    end-line-requires
+    tell-reason-requires
     add-reason
     loop-less
     loop-again
+    tell-reason-requires-2
     returns)

@@ -7,7 +7,7 @@ abbrev Inv-loop : tie.InvT-loop
 Inv-loop desk list bytes₀ k₀ bytes k = Unit
 
 abbrev μ-loop : tie.MeasureT-loop
-μ-loop desk list bytes₀ k₀ bytes k = 1280 - k
+μ-loop desk list bytes₀ k₀ bytes k = 1408 - k
 
 loop-holds : tie.Need-loop-holds Inv-loop μ-loop
 loop-holds c = search needs

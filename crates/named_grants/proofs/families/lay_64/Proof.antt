@@ -4,16 +4,19 @@ use Rattle.named_grants.proofs.families.lay_64.Statement.{statement}
 use Rattle.named_grants.proofs.families.lay_64.Tie as tie
 
 abbrev Inv-loop : tie.InvT-loop
-Inv-loop desk₀ kind m role g₀ desk g = Unit
+Inv-loop desk₀ kind m role memory g₀ desk g = Unit
 
 abbrev μ-loop : tie.MeasureT-loop
-μ-loop desk₀ kind m role g₀ desk g = 64 - g
+μ-loop desk₀ kind m role memory g₀ desk g = 64 - g
 
 clear-requires : tie.Need-clear-requires Inv-loop μ-loop
 clear-requires c κs = search needs
 
 loop-holds : tie.Need-loop-holds Inv-loop μ-loop
 loop-holds c = search needs
+
+is-apart-requires : tie.Need-is-apart-requires Inv-loop μ-loop
+is-apart-requires c κs = search needs
 
 lay-step-requires : tie.Need-lay-step-requires Inv-loop μ-loop
 lay-step-requires c κs = search needs
@@ -44,6 +47,7 @@ lay-64-spec =
     μ-loop
     clear-requires
     loop-holds
+    is-apart-requires
     lay-step-requires
     what-is-requires
     lay-grant-requires

@@ -1,7 +1,7 @@
 use Prim.Native.Nat.{_-_}
 use borrow.Author.Needs.{needs}
-use Rattle.cases.proofs.page.written.Statement.{statement}
-use Rattle.cases.proofs.page.written.Tie as tie
+use Rattle.cases.proofs.page.entered.Statement.{statement}
+use Rattle.cases.proofs.page.entered.Tie as tie
 
 abbrev Inv-loop : tie.InvT-loop
 Inv-loop desk₀ packets₀ desk packets = Unit
@@ -11,12 +11,6 @@ abbrev μ-loop : tie.MeasureT-loop
 
 case-alone-requires : tie.Need-case-alone-requires Inv-loop μ-loop
 case-alone-requires c κs = search needs
-
-full-state-requires : tie.Need-full-state-requires Inv-loop μ-loop
-full-state-requires c κs = search needs
-
-case-alone-requires-2 : tie.Need-case-alone-requires-2 Inv-loop μ-loop
-case-alone-requires-2 c κs = search needs
 
 loop-holds : tie.Need-loop-holds Inv-loop μ-loop
 loop-holds c = search needs
@@ -39,15 +33,13 @@ loop-again c = search needs
 returns : tie.Need-returns Inv-loop μ-loop
 returns c = search needs
 
-pub written-spec : {M : Type 1} → statement M
-written-spec =
+pub entered-spec : {M : Type 1} → statement M
+entered-spec =
     tie.close
     (tie.spec
     Inv-loop
     μ-loop
     case-alone-requires
-    full-state-requires
-    case-alone-requires-2
     loop-holds
     begin-case-requires
     case-behind-requires

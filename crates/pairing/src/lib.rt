@@ -1,0 +1,1 @@
+// The pair over any batch: theorems alone. There is no function here.
