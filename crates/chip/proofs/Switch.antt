@@ -28,7 +28,8 @@ use Rattle.meaning.proofs.Exactly.{accepted-permitted, accepted-cut}
 use Rattle.meaning.proofs.Outputs.{wrote}
 use Rattle.meaning.proofs.Bytes.{settle-done, settle-refused}
 use Rattle.meaning.proofs.Fitter.{packets-inside, held-inside, safe-held}
-use Rattle.pairing.proofs.Entry.{SamePair, same-pair-of, same-pair-fine, same-pair-applied, fine-stays}
+use Rattle.pairing.specs.Same.{SamePair}
+use Rattle.pairing.proofs.Entry.{same-pair-of, same-pair-fine, same-pair-applied, fine-stays}
 use Rattle.pairing.proofs.Kept.{each-fine, accepted-fine, fine-target, safe-target}
 use Rattle.chip.specs.Chip.{contentAt, isAddress, obeys, obeysAll, AllAccepted, leftBy, Marked, Full, Remarked, AddressesRemarked, PairRemarked, LaidOver, EachAddress, Turn, Proper, takes, takesAll}
 

@@ -134,8 +134,9 @@ fn settled(known: bool, mark: u32, memory: u32) -> bool
     memory == 0
 }
 
-// Gives the two marks back as they are behind the batch, from `target` and `location`, those that it was entered with. Whether the batch keeps the pair: it wrote
-// neither cell, or the pair is fine. `known` says that an address that the batch wrote is granted in memory 0, which its caller may have seen.
+// Gives the two marks back as they are behind the batch, from `target` and `location`, those that it was entered with. Whether the batch
+// keeps the pair: it wrote neither cell, or the pair is fine. `known` says that an address that the batch wrote is granted in memory 0, which
+// its caller may have seen.
 pub fn kept(
     target: u32,
     location: u32,

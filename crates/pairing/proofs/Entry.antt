@@ -16,6 +16,7 @@ use Rattle.meaning.specs.Grants.{Terms}
 use Rattle.meaning.specs.State.{valueAt, markAt, Write, apply, applyAll}
 use Rattle.meaning.specs.Pair.{targetCell, locationCell, memoryOf, pairFine, wrotePair, pairKept}
 use Rattle.meaning.proofs.Pairs.{Low, kept-iff, pair-untouched}
+use Rattle.pairing.specs.Same.{SamePair}
 
 -- S10 "if it writes neither cell": whatever the state holds
 pub unwritten-kept : (g : Terms) (st : List ℕ) (ws : List Write) → ¬ T (wrotePair ws) → pairKept g st ws ≡ true
@@ -52,13 +53,6 @@ applied-agree a b i (w ∷ ws) l e =
     (set-agree (set a c v) (set b c v) i (cells + c) 1 k (set-agree a b i c v l e))
 
 -- ---- the pair alone
-
--- two states with the same values and marks in cells 1 and 2
-pub record SamePair (st other : List ℕ) : Type 0 where
-  pub target : valueAt st targetCell ≡ valueAt other targetCell
-  pub target-mark : markAt st targetCell ≡ markAt other targetCell
-  pub location : valueAt st locationCell ≡ valueAt other locationCell
-  pub location-mark : markAt st locationCell ≡ markAt other locationCell
 
 pub same-pair-of : (st other : List ℕ)
     → ((c : ℕ) → 1 ≤ c → c ≤ 2 → (valueAt st (cell c) ≡ valueAt other (cell c)) × (markAt st (cell c) ≡ markAt other (cell c))) → SamePair st other

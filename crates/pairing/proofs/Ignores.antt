@@ -15,7 +15,8 @@ use Rattle.meaning.specs.Positions.{writesOf}
 use Rattle.meaning.specs.Answers.{provided}
 use Rattle.meaning.specs.Reader.{unless, batchAnswer, pairedAnswer, readAnswer}
 use Rattle.meaning.proofs.States.{formed-iff}
-use Rattle.pairing.proofs.Entry.{unwritten-kept, SamePair, same-pair-kept}
+use Rattle.pairing.specs.Same.{SamePair}
+use Rattle.pairing.proofs.Entry.{unwritten-kept, same-pair-kept}
 
 -- no place, and no reason but 0 and 14, depends on what the registers hold; 0 or 14 depends on cells 1 and 2 alone, and on nothing where
 -- the batch writes neither

@@ -31,7 +31,7 @@ use Rattle.meaning.proofs.Round.{reached-sound, reached-pair, reached-iff, pack
 use Rattle.meaning.proofs.Exactly.{accepted-permitted, accepted-iff, read-exactly}
 use Rattle.meaning.proofs.Outputs.{write-told, write-answer, write-exactly, written-back, list-answer, list-exactly, listing-at-most}
 use Rattle.meaning.proofs.Bytes.{words-bytes, settle-done, settle-refused}
-use Rattle.pairing.proofs.Entry.{SamePair}
+use Rattle.pairing.specs.Same.{SamePair}
 use Rattle.pairing.proofs.Mended.{refusal-longest}
 use Rattle.pairing.proofs.Ignores.{ignores}
 use Rattle.pairing.proofs.Kept.{inside-kept, safe-kept}
