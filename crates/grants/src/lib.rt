@@ -11,9 +11,12 @@ use meaning::Which;
 // The first address of each kept grant, or the last of each.
 pub type Spans = [u32; MOST_GRANTS];
 
-// The number of each kept grant in the list that it comes from, and 64 more where it is in memory 1. One byte bears both, so that nothing
-// more is lent, or copied with an engine.
+// The number of each kept grant in the list that it comes from, and MEMORY_STEP more where it is in memory 1. One byte bears both, so that
+// nothing more is lent, or copied with an engine.
 pub type Numbers = [u8; MOST_GRANTS];
+
+// As many as there are numbers.
+pub const MEMORY_STEP: u8 = 64;
 
 // Where the kept grants of each role stand: from `bounds[role]` on, to before `bounds[4 + role]`. There is no role 0: `bounds[IN_MEMORY_1]` is
 // the number of grants in memory 1.
@@ -46,7 +49,7 @@ fn lies(memory: Memory, number: u8) -> bool
 {
     match memory {
         Memory::Either => true,
-        Memory::Only(m) => (number / 64) as u32 == m,
+        Memory::Only(m) => (number / MEMORY_STEP) as u32 == m,
     }
 }
 
@@ -75,11 +78,12 @@ fn covers(
 fn numbered(number: u8) -> Which
     ensures grant { λ r. ⌜ r ≡ by.Grant (kept.numberIn number) ⌝ }
 {
-    Which::Grant((number % 64) as usize)
+    Which::Grant((number % MEMORY_STEP) as usize)
 }
 
-// THE TEST: the grant of the part that admits the address, in whichever memory or in one. The first that covers it is the lowest-numbered, since a part keeps the order of
-// the list. The last is asked behind the loop, so that nothing is made ready for a miss inside it; a number is looked at where one covers.
+// THE TEST: the grant of the part that admits the address, in whichever memory or in one. The first that covers it is the lowest-numbered,
+// since a part keeps the order of the list. The last is asked behind the loop, so that nothing is made ready for a miss inside it; a number is
+// looked at where one covers.
 pub fn which(
     starts: &Spans,
     lasts: &Spans,

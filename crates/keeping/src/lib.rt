@@ -8,6 +8,8 @@ ghost use Rattle.meaning.specs.Words.{wordsOf};
 ghost use Rattle.meaning.specs.Grants.{grantsOf, memoryFine, grantFine, grantsFine};
 ghost use Rattle.keeping.specs.Keeping as kept;
 use grants::Bounds;
+use grants::IN_MEMORY_1;
+use grants::MEMORY_STEP;
 use grants::Numbers;
 use grants::Spans;
 use meaning::GRANT_WORDS;
@@ -15,6 +17,9 @@ use meaning::MOST_GRANTS;
 
 // The most words that a list has.
 const MOST_WORDS: usize = GRANT_WORDS * MOST_GRANTS;
+
+// What a memory adds to a number, as a word.
+const STEP: u32 = MEMORY_STEP as u32;
 
 // Memory 0 or 1, and only the target's may be 1.
 fn memory_fine(role: u32, memory: u32) -> bool
@@ -49,7 +54,7 @@ fn grant_fine(role: u32, start: u32, length: u32, reach: u32, memory: u32) -> bo
 }
 
 // Whole grants, at most 64, each with a role from 1 to 3, an end of at most 2^32, a reach of at least 1 and a memory that its role may have.
-// How many have each role is counted on the way, and, where no role is, how many are in memory 1.
+// How many have each role is counted on the way, and, in the place of role 0, which does not exist, how many are in memory 1.
 fn count_roles(grants: &[u8], counts: &mut [usize; 4]) -> bool
     requires none { ⌜ now counts ≡ kept.noCounts ⌝ }
     ensures fine { λ r. ⌜ r ≡ grantsFine (wordsOf (now (grants .entry))) ⌝ }
@@ -98,14 +103,14 @@ pub fn begin(grants: &[u8], bounds: &mut Bounds) -> bool
     let third = second + counts[2];
     bounds[2] = second;
     bounds[3] = third;
-    bounds[4] = counts[0];
+    bounds[IN_MEMORY_1] = counts[0];
     bounds[6] = second;
     bounds[7] = third;
     true
 }
 
-// Keeps each grant in its role's part, in the order of the list, and with it its number in the list and its memory. One whose reach is more than its
-// length covers no address, and is left out.
+// Keeps each grant in its role's part, in the order of the list, and with it its number in the list and its memory. One whose reach is more
+// than its length covers no address, and is left out.
 pub fn place(
     grants: &[u8],
     starts: &mut Spans,
@@ -132,7 +137,7 @@ pub fn place(
             let start = words::word(grants, i + 1);
             starts[at] = start;
             lasts[at] = start + (length - reach);
-            numbers[at] = (number + 64 * words::word(grants, i + 4)) as u8;
+            numbers[at] = (number + STEP * words::word(grants, i + 4)) as u8;
             bounds[end] = at + 1;
         }
         number += 1;

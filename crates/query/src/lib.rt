@@ -43,8 +43,8 @@ fn role_of(cell: Cell) -> usize
     }
 }
 
-// The grant that admits what a value holds in the register of a cell other than cell 1. Here and below `starts`, `lasts`, `numbers` and `bounds` are the
-// grants as they are kept.
+// The grant that admits what a value holds in the register of a cell other than cell 1. Here and below `starts`, `lasts`, `numbers` and
+// `bounds` are the grants as they are kept.
 fn which_stored(
     cell: Cell,
     value: u32,

@@ -38,8 +38,8 @@ fn clear_pair(own: &mut State)
 }
 
 // Reads a batch: 1 if the state is not well-formed, 2 if the grant list breaks its rules, then what the first bad word gives, or 10, or
-// 14 if the batch does not keep the pair; else 0 and the batch's length in words. The state is changed only if the whole batch is accepted; bytes past the last whole word of a
-// buffer count for nothing.
+// 14 if the batch does not keep the pair; else 0 and the batch's length in words. The state is changed only if the whole batch is accepted;
+// bytes past the last whole word of a buffer count for nothing.
 pub fn read(batch: &[u8], grants: &[u8], state: &mut [u8]) -> Answer
     ensures answer { λ r. ⌜ r ≡ readAnswer (wordsOf (now (batch .entry))) (wordsOf (now (grants .entry))) (wordsOf (now (state .entry))) ⌝ }
     ensures bytes { λ r. ⌜ now (state .exit) ≡ settle r (over (bytesOf (readLeaves (wordsOf (now (batch .entry))) (wordsOf (now (grants .entry))) (wordsOf (now (state .entry))))) (now (state .entry))) (now (state .entry)) ⌝ }
