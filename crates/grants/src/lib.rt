@@ -19,7 +19,7 @@ pub type Numbers = [u8; MOST_GRANTS];
 pub const MEMORY_STEP: u8 = 64;
 
 // Where the kept grants of each role stand: from `bounds[role]` on, to before `bounds[4 + role]`. There is no role 0: `bounds[IN_MEMORY_1]` is
-// the number of grants in memory 1.
+// 1 if some kept grant is in memory 1, and else 0.
 pub const BOUNDS: usize = 8;
 
 pub const IN_MEMORY_1: usize = 4;

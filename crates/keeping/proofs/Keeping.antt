@@ -21,8 +21,8 @@ use Rattle.meaning.specs.Grants.{Grant, mostGrants, grantsOf, grantsFine, liesI
 use Rattle.grants.specs.Kept.{Keeps, Bounded, Names, bearing, numberIn, liesAs, spansAt, coversAt, whichKept, whichIn, partOf}
 use Rattle.numbering.proofs.Grants.{length-grants, fine-list}
 use Rattle.grants.proofs.Keeping.{same-test, names-keep}
-use Rattle.keeping.specs.Keeping.{Kept, inMemory1, place, placeAll, beginnings, begunBy, keptOf}
-use Rattle.keeping.proofs.Room.{with-own, empty-first, same-beginning, same-end, next-end, Ready, ready-first, place-kept, place-past, first-fine, first-room, ready-next}
+use Rattle.keeping.specs.Keeping.{Kept, place, placeAll, beginnings, begunBy, keptOf}
+use Rattle.keeping.proofs.Room.{with-own, noted-0, noted-1, noted-else, empty-first, longer, same-beginning, same-end, next-end, Ready, ready-first, place-kept, place-past, first-fine, first-room, ready-next}
 
 -- ---- addresses
 
@@ -153,11 +153,14 @@ module _ (n : ℕ) (few : n < 64) (g : Grant) (gs : List Grant) (k : Kept) (read
   own : g .reach ≤ g .length → held (place n g k) (g .role) m a ≡ orElse (held k (g .role) m a) (onlyIf (covers m (g .role) a g) n)
   unfolding covers
   own fits =
-      let high : g .role < 4 = omega (arith, first-fine n g k gs ready .high) in
+      let rules = first-fine n g k gs ready in
+      let high : g .role < 4 = omega (arith, rules .high) in
       let room = ready .room in
       let there = first-room n g k gs ready in
       rw (
         place-kept n g k (le-leb (g .reach) (g .length) fits),
+        noted-else (g .memory) (longer g (k .bounds)) (g .role) (λ e. omega arith),
+        noted-else (g .memory) (longer g (k .bounds)) (4 + g .role) (λ e. omega (arith, rules .low)),
         same-beginning g gs (k .bounds) room high (g .role) high,
         next-end g gs (k .bounds) room high,
         eq-eqb (g .role) (g .role) refl,
@@ -181,6 +184,8 @@ module _ (n : ℕ) (few : n < 64) (g : Grant) (gs : List Grant) (k : Kept) (read
       let room = ready .room in
       rw (
         place-kept n g k (le-leb (g .reach) (g .length) fits),
+        noted-else (g .memory) (longer g (k .bounds)) role (λ e. omega arith),
+        noted-else (g .memory) (longer g (k .bounds)) (4 + role) (λ e. omega arith),
         same-beginning g gs (k .bounds) room its role high,
         same-end g gs (k .bounds) room its role apart,
         ne-eqb (g .role) role apart,
@@ -228,25 +233,42 @@ none-held gs starts lasts numbers role low high m a =
     let none : getD (beginnings gs) role 0 - getD (beginnings gs) role 0 ≡ 0 = omega arith in
     rw (empty-first gs role low high, none)
 
--- the number of grants in memory 1 stays where it was begun
-memory-stays : (n : ℕ) (gs : List Grant) (k : Kept) → Ready gs (k .bounds) → getD (placeAll n gs k .bounds) 4 0 ≡ getD (k .bounds) 4 0
-unfolding placeAll
-memory-stays n [] k ready = refl
-memory-stays n (g ∷ gs) k ready =
-    memory-stays (suc n) gs (place n g k) (ready-next n g k gs ready)
-    ∙ elim (decLe (g .reach) (g .length)) [
-      | yes h ↦ rw (place-kept n g k (le-leb (g .reach) (g .length) h))
-          (getD-set-other (k .bounds) (4 + g .role) 4 _ 0 (λ e. omega (arith, first-fine n g k gs ready .low)))
-      | no h ↦ rw (place-past n g k (lt-leb (g .reach) (g .length) (omega arith)))
+-- where nothing is noted of the list, nothing was noted before, and what a grant covers it covers in memory 0
+near-one : (n : ℕ) (g : Grant) (gs : List Grant) (k : Kept) → Ready (g ∷ gs) (k .bounds) → getD (place n g k .bounds) 4 0 ≡ 0
+    → (getD (k .bounds) 4 0 ≡ 0) × ((role a : ℕ) → covers (Only 0) role a g ≡ covers Either role a g)
+unfolding covers
+near-one n g gs k ready none =
+    elim (decLe (g .reach) (g .length)) [
+      | yes fits ↦
+          let rules = first-fine n g k gs ready in
+          let noted = rw (place-kept n g k (le-leb (g .reach) (g .length) fits)) at none in
+          elim (ℕ-discrete (g .memory) 0) [
+            | yes e ↦ (
+              sym (getD-set-other (k .bounds) (4 + g .role) 4 _ 0 (λ f. omega (arith, rules .low))) ∙ (rw (noted-0 (g .memory) (longer g (k .bounds)) e) at noted),
+              λ role a. rw e,
+            )
+            | no m ↦ absurd (omega (
+              arith,
+              rw (noted-1 (g .memory) (longer g (k .bounds)) m) at noted,
+              getD-set-same (longer g (k .bounds)) 4 1 0 (omega (arith, length-set (k .bounds) (4 + g .role) (getD (k .bounds) (4 + g .role) 0 + 1), ready .room .long)),
+            ))
+          ]
+      | no h ↦
+          let short : g .length < g .reach = omega arith in (
+            rw (place-past n g k (lt-leb (g .reach) (g .length) short)) at none,
+            λ role a. rw (empty (g .start) (g .length) (g .reach) a short, and-false, and-false),
+          )
     ]
 
--- where it is 0, an address is granted in memory 0 if it is at all
-all-near : (gs : List Grant) → inMemory1 gs ≡ 0 → (role a : ℕ) → granted gs (Only 0) role a ≡ granted gs Either role a
-unfolding inMemory1 granted some covers
-all-near [] none role a = refl
-all-near (g ∷ gs) none role a =
-    let here : g .memory ≡ 0 = omega arith in
-    rw (here, all-near gs (omega arith) role a)
+-- so an address is granted in memory 0 if it is at all
+all-near : (n : ℕ) (gs : List Grant) (k : Kept) → Ready gs (k .bounds) → getD (placeAll n gs k .bounds) 4 0 ≡ 0
+    → (getD (k .bounds) 4 0 ≡ 0) × ((role a : ℕ) → granted gs (Only 0) role a ≡ granted gs Either role a)
+unfolding placeAll granted some
+all-near n [] k ready none = (none, λ role a. refl)
+all-near n (g ∷ gs) k ready none =
+    let rest = all-near (suc n) gs (place n g k) (ready-next n g k gs ready) none in
+    let here = near-one n g gs k ready (rest .0) in
+    (here .0, λ role a. rw (here .1 role a, rest .1 role a))
 
 -- ---- a list kept
 
@@ -286,10 +308,10 @@ module _ (ws starts lasts numbers : List ℕ) (fine : grantsFine ws ≡ true) wh
   unfolding keptOf
   begun-first role high = all-ready 0 gs begun ready .room .begun role high
 
-  -- where no grant is in memory 1, memory 0 is all there is
+  -- where no kept grant is in memory 1, memory 0 is all there is
   pub near : getD (all .bounds) 4 0 ≡ 0 → (role a : ℕ) → granted gs (Only 0) role a ≡ granted gs Either role a
-  unfolding keptOf beginnings
-  near none = all-near gs (sym (memory-stays 0 gs begun ready) ∙ none)
+  unfolding keptOf
+  near none = all-near 0 gs begun ready none .1
 
 -- what `begin` makes of a list that keeps its rules
 pub begun-by : (ws : List ℕ) → grantsFine ws ≡ true → begunBy ws ≡ beginnings (grantsOf ws)

@@ -1,6 +1,7 @@
 -- How many grants have a role, and the room for them: each role's part ends before the next begins, with room for its grants to come.
 -- Assumes nothing.
 use mathlib.Core.Path.{_≡_, refl, _∙_}
+use mathlib.Core.Logic.{_≢_}
 use mathlib.Core.List.{List, [], _∷_}
 use mathlib.Core.Bool.{true, false}
 use Prim.Native.Nat.{ℕ, zero, suc, _+_, _-_, _≤_, _<_}
@@ -14,7 +15,7 @@ use mir.Facts.{and-yes}
 use Rattle.laws.specs.Lists.{every}
 use Rattle.meaning.specs.Grants.{Grant, mostGrants, grantsOf, grantFine, grantsFine}
 use Rattle.grants.specs.Kept.{bearing}
-use Rattle.keeping.specs.Keeping.{Kept, withRole, inMemory1, beginnings, place}
+use Rattle.keeping.specs.Keeping.{Kept, withRole, noted, beginnings, place}
 use Rattle.meaning.proofs.Fitter.{InMemory, grant-rules}
 use Rattle.numbering.proofs.Grants.{length-grants, fine-list}
 
@@ -58,22 +59,35 @@ with-all (g ∷ gs) =
       ]
     ]
 
--- ---- how many are in memory 1
-
--- of grants that keep their rules, no more than there are; and none of them has no role
-pub memory-few : (gs : List Grant) → T (every grantFine gs) → inMemory1 gs + withRole 0 gs ≤ length gs
-unfolding inMemory1 every
-memory-few [] fine = omega (arith, with-none 0)
-memory-few (g ∷ gs) fine =
+-- none has role 0, where each keeps its rules
+with-role-0 : (gs : List Grant) → T (every grantFine gs) → withRole 0 gs ≡ 0
+unfolding every
+with-role-0 [] fine = with-none 0
+with-role-0 (g ∷ gs) fine =
     let both = and-yes (grantFine g) (every grantFine gs) fine in
-    let rules = grant-rules g (both .0) in
-    omega (arith, memory-few gs (both .1), rules .memory, with-other g gs 0 (λ e. omega (arith, rules .low)))
+    with-other g gs 0 (λ e. omega (arith, grant-rules g (both .0) .low)) ∙ with-role-0 gs (both .1)
+
+-- ---- what is noted of the list
+
+module _ (memory : ℕ) (bounds : List ℕ) where
+  pub noted-0 : memory ≡ 0 → noted memory bounds ≡ bounds
+  unfolding noted
+  noted-0 e = rw e
+
+  pub noted-1 : memory ≢ 0 → noted memory bounds ≡ set bounds 4 1
+  unfolding noted
+  noted-1 n = rw (ne-eqb memory 0 n)
+
+  -- no bound of a part changes by it
+  pub noted-else : (i : ℕ) → i ≢ 4 → getD (noted memory bounds) i 0 ≡ getD bounds i 0
+  noted-else i n = elim (ℕ-discrete memory 0) [ yes e ↦ rw (noted-0 e) | no m ↦ rw (noted-1 m) (getD-set-other bounds 4 i 1 0 n) ]
 
 -- ---- the room
 
 -- the parts lie one behind another, and have room for these grants
 pub record Room (gs : List Grant) (bounds : List ℕ) : Type 0 where
   pub long : length bounds ≡ 8
+  pub none : getD bounds 0 0 ≡ 0
   pub begun : (role : ℕ) → role < 4 → getD bounds role 0 ≤ getD bounds (4 + role) 0
   pub apart : (role next : ℕ) → 1 ≤ role → role < next → next < 4 → getD bounds (4 + role) 0 + withRole role gs ≤ getD bounds next 0
   pub inside : (role : ℕ) → role < 4 → getD bounds (4 + role) 0 + withRole role gs ≤ mostGrants
@@ -93,12 +107,13 @@ empty-first gs role low high =
     below4 (λ (r : ℕ). 1 ≤ r → getD (beginnings gs) (4 + r) 0 ≡ getD (beginnings gs) r 0) (λ l. absurd (omega arith)) (λ l. refl) (λ l. refl) (λ l. refl) role high low
 
 -- and there is room for all
-pub room-first : (gs : List Grant) → T (every grantFine gs) → length gs ≤ mostGrants → Room gs (beginnings gs)
+pub room-first : (gs : List Grant) → length gs ≤ mostGrants → Room gs (beginnings gs)
 unfolding beginnings
-room-first gs fine few =
+room-first gs few =
     let all = with-all gs in
     record {
       long = refl;
+      none = refl;
       begun = λ role high. elim (decLe 1 role) [ yes low ↦ omega (arith, empty-first gs role low high) | no none ↦ let e : role ≡ 0 = omega arith in rw e (omega arith) ];
       apart = λ role next low before high.
           elim (ℕ-discrete role 1) [
@@ -108,13 +123,14 @@ room-first gs fine few =
             ]
             | no n ↦ let e : role ≡ 2 = omega arith in let f : next ≡ 3 = omega arith in rw (e, f) (omega arith)
           ];
-      inside = below4 (λ (r : ℕ). getD (beginnings gs) (4 + r) 0 + withRole r gs ≤ mostGrants) (omega (arith, memory-few gs fine)) (omega arith) (omega arith) (omega arith);
+      inside = below4 (λ (r : ℕ). getD (beginnings gs) (4 + r) 0 + withRole r gs ≤ mostGrants) (omega (arith, with-few 0 gs)) (omega arith) (omega arith) (omega arith);
     }
 
 -- a grant that is not kept leaves the room to the others
 pub room-past : (g : Grant) (gs : List Grant) (bounds : List ℕ) → Room (g ∷ gs) bounds → Room gs bounds
 room-past g gs bounds room = record {
   long = room .long;
+  none = room .none;
   begun = room .begun;
   apart = λ role next low before high. omega (arith, room .apart role next low before high, with-step g gs role);
   inside = λ role high. omega (arith, room .inside role high, with-step g gs role);
@@ -146,6 +162,7 @@ module _ (g : Grant) (gs : List Grant) (bounds : List ℕ) (room : Room (g ∷ g
   pub room-next : Room gs (longer g bounds)
   room-next = record {
     long = length-set bounds (4 + g .role) _ ∙ room .long;
+    none = same-beginning 0 (omega arith) ∙ room .none;
     begun = λ role h.
         elim (ℕ-discrete (g .role) role) [
           | yes e ↦ rw (← e) (omega (arith, room .begun (g .role) high, same-beginning (g .role) high, next-end))
@@ -154,6 +171,31 @@ module _ (g : Grant) (gs : List Grant) (bounds : List ℕ) (room : Room (g ∷ g
     apart = λ role next low before h. omega (arith, room .apart role next low before h, end-and role, same-beginning next h);
     inside = λ role h. omega (arith, room .inside role h, end-and role);
   }
+
+-- and what is noted of the list takes none
+room-noted : (memory : ℕ) (gs : List Grant) (bounds : List ℕ) → T (every grantFine gs) → Room gs bounds → Room gs (noted memory bounds)
+room-noted memory gs bounds fine room =
+    let else : (i : ℕ) → i ≢ 4 → getD (set bounds 4 1) i 0 ≡ getD bounds i 0 = λ i n. getD-set-other bounds 4 i 1 0 n in
+    let here : getD (set bounds 4 1) 4 0 ≡ 1 = getD-set-same bounds 4 1 0 (omega (arith, room .long)) in
+    elim (ℕ-discrete memory 0) [
+      | yes e ↦ rw (noted-0 memory bounds e) room
+      | no n ↦ rw (noted-1 memory bounds n)
+          (record {
+            long = length-set bounds 4 1 ∙ room .long;
+            none = else 0 (λ e. omega arith) ∙ room .none;
+            begun = λ role high.
+                elim (ℕ-discrete role 0) [
+                  | yes e ↦ rw e (omega (arith, else 0 (λ f. omega arith), room .none))
+                  | no k ↦ omega (arith, room .begun role high, else role (λ f. omega arith), else (4 + role) (λ f. k (omega arith)))
+                ];
+            apart = λ role next low before high. omega (arith, room .apart role next low before high, else (4 + role) (λ f. omega arith), else next (λ f. omega arith));
+            inside = λ role high.
+                elim (ℕ-discrete role 0) [
+                  | yes e ↦ rw e (omega (arith, here, with-role-0 gs fine))
+                  | no k ↦ omega (arith, room .inside role high, else (4 + role) (λ f. k (omega arith)))
+                ];
+          })
+    ]
 
 -- ---- ready for grants
 
@@ -165,7 +207,7 @@ pub record Ready (gs : List Grant) (bounds : List ℕ) : Type 0 where
 pub ready-first : (ws : List ℕ) → T (grantsFine ws) → Ready (grantsOf ws) (beginnings (grantsOf ws))
 ready-first ws fine =
     let told = fine-list ws fine in
-    record { fine = told .2; room = room-first (grantsOf ws) (told .2) (omega (arith, length-grants ws, told .1)) }
+    record { fine = told .2; room = room-first (grantsOf ws) (omega (arith, length-grants ws, told .1)) }
 
 module _ (n : ℕ) (g : Grant) (k : Kept) where
   -- a grant that covers some address is kept, and another is not
@@ -175,7 +217,7 @@ module _ (n : ℕ) (g : Grant) (k : Kept) where
         starts = set (k .starts) (getD (k .bounds) (4 + g .role) 0) (g .start);
         lasts = set (k .lasts) (getD (k .bounds) (4 + g .role) 0) (g .start + (g .length - g .reach));
         numbers = set (k .numbers) (getD (k .bounds) (4 + g .role) 0) (bearing n (g .memory));
-        bounds = longer g (k .bounds);
+        bounds = noted (g .memory) (longer g (k .bounds));
       }
   unfolding place
   place-kept e = rw e
@@ -200,6 +242,6 @@ module _ (n : ℕ) (g : Grant) (k : Kept) where
         let rest = and-yes (grantFine g) (every grantFine gs) (ready .fine) .1 in
         elim (decLe (g .reach) (g .length)) [
           | yes h ↦ rw (place-kept (le-leb (g .reach) (g .length) h))
-              (record { fine = rest; room = room-next g gs (k .bounds) (ready .room) (omega (arith, first-fine .high)) })
+              (record { fine = rest; room = room-noted (g .memory) gs _ rest (room-next g gs (k .bounds) (ready .room) (omega (arith, first-fine .high))) })
           | no h ↦ rw (place-past (lt-leb (g .reach) (g .length) (omega arith))) (record { fine = rest; room = room-past g gs (k .bounds) (ready .room) })
         ]

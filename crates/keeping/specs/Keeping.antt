@@ -3,7 +3,7 @@
 -- Assumes nothing.
 use mathlib.Core.Bool.{cond}
 use mathlib.Core.List.{List, [], _∷_}
-use Prim.Native.Nat.{ℕ, zero, suc, _+_, _-_}
+use Prim.Native.Nat.{ℕ, suc, _+_, _-_}
 use lib.Dec.{leb, eqb}
 use lib.ListN.{getD, set}
 use Rattle.meaning.specs.Grants.{Grant, grantsOf, grantsFine}
@@ -16,6 +16,10 @@ pub record Kept : Type 0 where
   pub numbers : List ℕ
   pub bounds : List ℕ
 
+-- a kept grant in memory 1 is noted of the list, where role 0 would have its end
+unfoldable pub noted : ℕ → List ℕ → List ℕ
+noted memory bounds = cond (eqb memory 0) bounds (set bounds 4 1)
+
 -- grant number n at the end of its role's part; one whose reach is more than its length covers no address, and is left out
 unfoldable pub place : ℕ → Grant → Kept → Kept
 place n g k =
@@ -25,7 +29,7 @@ place n g k =
       starts = set (k .starts) at (g .start);
       lasts = set (k .lasts) at (g .start + (g .length - g .reach));
       numbers = set (k .numbers) at (bearing n (g .memory));
-      bounds = set (k .bounds) (4 + g .role) (at + 1);
+      bounds = noted (g .memory) (set (k .bounds) (4 + g .role) (at + 1));
     })
     k
 
@@ -39,16 +43,6 @@ unfoldable pub withRole : ℕ → List Grant → ℕ
 withRole role [] = 0
 withRole role (g ∷ gs) = let more = withRole role gs in cond (eqb (g .role) role) (suc more) more
 
--- how many grants are in memory 1, where each is in memory 0 or 1
-unfoldable pub inMemory1 : List Grant → ℕ
-inMemory1 [] = 0
-inMemory1 (g ∷ gs) = g .memory + inMemory1 gs
-
--- what is counted: for each role those that have it, and, where no role is, those in memory 1
-abbrev pub counted : ℕ → List Grant → ℕ
-counted zero gs = inMemory1 gs
-counted (suc role) gs = withRole (suc role) gs
-
 -- nothing is counted, and nothing is kept
 abbrev pub noCounts : List ℕ
 noCounts = 0 ∷ 0 ∷ 0 ∷ 0 ∷ []
@@ -56,12 +50,12 @@ noCounts = 0 ∷ 0 ∷ 0 ∷ 0 ∷ []
 abbrev pub noBounds : List ℕ
 noBounds = 0 ∷ 0 ∷ 0 ∷ 0 ∷ 0 ∷ 0 ∷ 0 ∷ 0 ∷ []
 
--- each role's part begins behind those before it, and is empty; where no role's is, the number of grants in memory 1
+-- each role's part begins behind those before it, and is empty; nothing is noted
 unfoldable pub beginnings : List Grant → List ℕ
 beginnings gs =
     let second = withRole 1 gs in
     let third = withRole 1 gs + withRole 2 gs in
-    0 ∷ 0 ∷ second ∷ third ∷ inMemory1 gs ∷ 0 ∷ second ∷ third ∷ []
+    0 ∷ 0 ∷ second ∷ third ∷ 0 ∷ 0 ∷ second ∷ third ∷ []
 
 -- the beginnings of a list that keeps its rules; else nothing is begun
 unfoldable pub begunBy : List ℕ → List ℕ

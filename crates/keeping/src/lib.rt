@@ -1,11 +1,12 @@
 // The grant list: its rules, and how its grants come to be kept, each behind the others of its role.
 ghost use mathlib.Core.Path.{_≡_};
 ghost use mathlib.Core.Bool.{true};
-ghost use Prim.Native.Nat.{ℕ, _<_};
+ghost use Prim.Native.Nat.{ℕ, _≤_, _<_};
 ghost use lib.Dec.{T};
-ghost use lib.ListN.{getD};
+ghost use lib.ListN.{getD, set};
 ghost use Rattle.meaning.specs.Words.{wordsOf};
-ghost use Rattle.meaning.specs.Grants.{grantsOf, memoryFine, grantFine, grantsFine};
+ghost use Rattle.meaning.specs.Grants.{mostGrants, grantsOf, memoryFine, grantFine, grantsFine};
+ghost use Rattle.grants.specs.Kept.{bearing};
 ghost use Rattle.keeping.specs.Keeping as kept;
 use grants::Bounds;
 use grants::IN_MEMORY_1;
@@ -17,9 +18,6 @@ use meaning::MOST_GRANTS;
 
 // The most words that a list has.
 const MOST_WORDS: usize = GRANT_WORDS * MOST_GRANTS;
-
-// What a memory adds to a number, as a word.
-const STEP: u32 = MEMORY_STEP as u32;
 
 // Memory 0 or 1, and only the target's may be 1.
 fn memory_fine(role: u32, memory: u32) -> bool
@@ -54,11 +52,11 @@ fn grant_fine(role: u32, start: u32, length: u32, reach: u32, memory: u32) -> bo
 }
 
 // Whole grants, at most 64, each with a role from 1 to 3, an end of at most 2^32, a reach of at least 1 and a memory that its role may have.
-// How many have each role is counted on the way, and, in the place of role 0, which does not exist, how many are in memory 1.
+// How many have each role is counted on the way.
 fn count_roles(grants: &[u8], counts: &mut [usize; 4]) -> bool
     requires none { ⌜ now counts ≡ kept.noCounts ⌝ }
     ensures fine { λ r. ⌜ r ≡ grantsFine (wordsOf (now (grants .entry))) ⌝ }
-    ensures counts { λ r. ⌜ (r ≡ true → (role : ℕ) → role < 4 → getD (now (counts .exit)) role 0 ≡ kept.counted role (grantsOf (wordsOf (now (grants .entry))))) ⌝ }
+    ensures counts { λ r. ⌜ (r ≡ true → (role : ℕ) → role < 4 → getD (now (counts .exit)) role 0 ≡ kept.withRole role (grantsOf (wordsOf (now (grants .entry))))) ⌝ }
 {
     let words = grants.len() / 4;
     if words % GRANT_WORDS != 0 {
@@ -70,19 +68,17 @@ fn count_roles(grants: &[u8], counts: &mut [usize; 4]) -> bool
     let mut i = 0;
     while i < words {
         let role = words::word(grants, i);
-        let memory = words::word(grants, i + 4);
         if !grant_fine(
             role,
             words::word(grants, i + 1),
             words::word(grants, i + 2),
             words::word(grants, i + 3),
-            memory,
+            words::word(grants, i + 4),
         ) {
             return false;
         }
         let r = role as usize;
         counts[r] = counts[r] + 1;
-        counts[0] = counts[0] + memory as usize;
         i += GRANT_WORDS;
     }
     true
@@ -103,10 +99,26 @@ pub fn begin(grants: &[u8], bounds: &mut Bounds) -> bool
     let third = second + counts[2];
     bounds[2] = second;
     bounds[3] = third;
-    bounds[IN_MEMORY_1] = counts[0];
     bounds[6] = second;
     bounds[7] = third;
     true
+}
+
+// Notes the number and the memory of the grant that is kept at a place. Only one in memory 1 is noted of the list too: nothing more is stored
+// for the others, which are the most.
+fn note(number: usize, memory: u32, at: usize, numbers: &mut Numbers, bounds: &mut Bounds)
+    requires few { ⌜ number < mostGrants ⌝ }
+    requires memory { ⌜ memory ≤ 1 ⌝ }
+    requires room { ⌜ at < mostGrants ⌝ }
+    ensures numbers { λ _. ⌜ now (numbers .exit) ≡ set (now (numbers .entry)) at (bearing number memory) ⌝ }
+    ensures bounds { λ _. ⌜ now (bounds .exit) ≡ kept.noted memory (now (bounds .entry)) ⌝ }
+{
+    if memory == 0 {
+        numbers[at] = number as u8;
+        return;
+    }
+    numbers[at] = number as u8 + MEMORY_STEP;
+    bounds[IN_MEMORY_1] = 1;
 }
 
 // Keeps each grant in its role's part, in the order of the list, and with it its number in the list and its memory. One whose reach is more
@@ -126,7 +138,7 @@ pub fn place(
     ensures bounds { λ _. ⌜ now (bounds .exit) ≡ kept.keptOf (grantsOf (wordsOf (now (grants .entry)))) (now (starts .entry)) (now (lasts .entry)) (now (numbers .entry)) .bounds ⌝ }
 {
     let words = grants.len() / 4;
-    let mut number = 0u32;
+    let mut number = 0usize;
     let mut i = 0;
     while i < words {
         let length = words::word(grants, i + 2);
@@ -137,8 +149,8 @@ pub fn place(
             let start = words::word(grants, i + 1);
             starts[at] = start;
             lasts[at] = start + (length - reach);
-            numbers[at] = (number + STEP * words::word(grants, i + 4)) as u8;
             bounds[end] = at + 1;
+            note(number, words::word(grants, i + 4), at, numbers, bounds);
         }
         number += 1;
         i += GRANT_WORDS;

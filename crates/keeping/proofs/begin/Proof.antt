@@ -11,7 +11,7 @@ use Rattle.laws.proofs.Arms.{told-true, told-false}
 use Rattle.meaning.specs.Words.{wordsOf}
 use Rattle.meaning.specs.Grants.{Grant, grantsOf, grantsFine}
 use Rattle.meaning.proofs.Bytes.{length-words}
-use Rattle.keeping.specs.Keeping.{withRole, inMemory1, counted, noBounds, beginnings, begunBy}
+use Rattle.keeping.specs.Keeping.{withRole, noBounds, beginnings, begunBy}
 use Rattle.numbering.proofs.Grants.{length-grants}
 use Rattle.keeping.proofs.Room.{with-all}
 use Rattle.keeping.proofs.Keeping.{begun-by}
@@ -24,18 +24,18 @@ not-begun : (ws : List ℕ) → grantsFine ws ≡ false → noBounds ≡ begunBy
 unfolding begunBy
 not-begun ws told = rw told
 
--- the five stores make the beginnings
-begun : (gs : List Grant) (bounds : List ℕ) (first second far : ℕ) → bounds ≡ noBounds → first ≡ withRole 1 gs → second ≡ withRole 2 gs → far ≡ inMemory1 gs
-    → set (set (set (set (set bounds 2 first) 3 (first + second)) 4 far) 6 first) 7 (first + second) ≡ beginnings gs
+-- the four stores make the beginnings
+begun : (gs : List Grant) (bounds : List ℕ) (first second : ℕ) → bounds ≡ noBounds → first ≡ withRole 1 gs → second ≡ withRole 2 gs
+    → set (set (set (set bounds 2 first) 3 (first + second)) 6 first) 7 (first + second) ≡ beginnings gs
 unfolding beginnings
-begun gs bounds first second far none one two memory = rw (none, one, two, memory)
+begun gs bounds first second none one two = rw (none, one, two)
 
 -- what the answer of `count_roles` tells, where it is true
 fine : (c : tie.Else1) → grantsFine (wordsOf (c .before .before .before .before .args .grants .now)) ≡ true
 fine c = told-true (c .before .count-roles .ensures .0) (c .if1 .left)
 
 counts : (c : tie.Else1) (role : ℕ) → role < 4
-    → getD (c .before .count-roles .last .1 .0) role 0 ≡ counted role (grantsOf (wordsOf (c .before .before .before .before .args .grants .now)))
+    → getD (c .before .count-roles .last .1 .0) role 0 ≡ withRole role (grantsOf (wordsOf (c .before .before .before .before .args .grants .now)))
 counts c = c .before .count-roles .ensures .1 (not-false (c .before .count-roles .result) (c .if1 .left))
 
 count-roles-requires : tie.Need-count-roles-requires
@@ -64,24 +64,18 @@ element-write-bounds c = search needs
 element-write-bounds-2 : tie.Need-element-write-bounds-2
 element-write-bounds-2 c = search needs
 
-array-read-bounds : tie.Need-array-read-bounds
-array-read-bounds c = search needs
-
 element-write-bounds-3 : tie.Need-element-write-bounds-3
 element-write-bounds-3 c = search needs
 
 element-write-bounds-4 : tie.Need-element-write-bounds-4
 element-write-bounds-4 c = search needs
 
-element-write-bounds-5 : tie.Need-element-write-bounds-5
-element-write-bounds-5 c = search needs
-
 returns-2 : tie.Need-returns-2
 returns-2 c =
     let start = c .before .before .before .before in
     let good = fine c in (
       sym good,
-      begun (grantsOf (wordsOf (start .args .grants .now))) _ _ _ _ (start .pre) (counts c 1 (omega arith)) (counts c 2 (omega arith)) (counts c 0 (omega arith))
+      begun (grantsOf (wordsOf (start .args .grants .now))) _ _ _ (start .pre) (counts c 1 (omega arith)) (counts c 2 (omega arith))
           ∙ sym (begun-by (wordsOf (start .args .grants .now)) good),
     )
 
@@ -96,8 +90,6 @@ begin-spec =
     add-third
     element-write-bounds
     element-write-bounds-2
-    array-read-bounds
     element-write-bounds-3
     element-write-bounds-4
-    element-write-bounds-5
     returns-2)

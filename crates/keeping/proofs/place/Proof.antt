@@ -15,7 +15,7 @@ use Rattle.meaning.proofs.Bytes.{length-words}
 use Rattle.meaning.proofs.Fitter.{InMemory}
 use Rattle.grants.specs.Kept.{bearing}
 use Rattle.keeping.specs.Keeping as kept
-use Rattle.keeping.specs.Keeping.{Kept, placeAll, beginnings, keptOf}
+use Rattle.keeping.specs.Keeping.{Kept, noted, placeAll, beginnings, keptOf}
 use Rattle.numbering.proofs.Grants.{grantAt, grant-read, grants-on, grants-end, fine-list}
 use Rattle.keeping.proofs.Room.{Ready, ready-first, place-kept, place-past, first-fine, first-room, ready-next}
 use Rattle.keeping.proofs.place.Statement.{statement}
@@ -50,7 +50,7 @@ module _ {ws starts₀ lasts₀ numbers₀ : List ℕ} {k : Kept} {number i : �
         → starts ≡ set (k .starts) (getD (k .bounds) (4 + role) 0) start
         → lasts ≡ set (k .lasts) (getD (k .bounds) (4 + role) 0) (start + (long - reach))
         → numbers ≡ set (k .numbers) (getD (k .bounds) (4 + role) 0) (bearing number memory)
-        → bounds ≡ set (k .bounds) (4 + role) (getD (k .bounds) (4 + role) 0 + 1)
+        → bounds ≡ noted memory (set (k .bounds) (4 + role) (getD (k .bounds) (4 + role) 0 + 1))
         → Runs ws starts₀ lasts₀ numbers₀ (record { starts = starts; lasts = lasts; numbers = numbers; bounds = bounds }) (number + 1) (i + 5)
     kept-turn role start long reach memory is fits starts lasts numbers bounds s l n b =
         turn _
@@ -158,6 +158,15 @@ mul-lasts c = omega (arith, room-read (c .before .before))
 element-write-lasts : tie.Need-element-write-lasts Inv-loop μ-loop
 element-write-lasts c = omega (arith, room-read (c .before .before))
 
+add-bounds : tie.Need-add-bounds Inv-loop μ-loop
+add-bounds c = omega (arith, room-read (c .before .before))
+
+mul-bounds : tie.Need-mul-bounds Inv-loop μ-loop
+mul-bounds c = omega arith
+
+element-write-bounds : tie.Need-element-write-bounds Inv-loop μ-loop
+element-write-bounds c = omega (arith, fine-here (c .before .before .before .before .before .before) .high)
+
 add-word-4 : tie.Need-add-word-4 Inv-loop μ-loop
 add-word-4 c = omega arith
 
@@ -165,35 +174,13 @@ word-requires-5 : tie.Need-word-requires-5 Inv-loop μ-loop
 word-requires-5 c κs = search needs
 
 -- the number and the memory are small, so that a byte bears both
-module _ (c : tie.After-word5 Inv-loop μ-loop) where
-  few-here : c .before .before .before .before .before .before .before .before .loop .number < 64
-  few-here =
-      let start = c .before .before .before .before .before .before .before .before .before .before in
-      omega (arith, fine-list (wordsOf (start .args .grants .now)) (start .pre .0) .1, length-words (start .args .grants .now))
-
-  memory-here : c .word5 .result ≤ 1
-  memory-here = rw (c .word5 .ensures) (fine-here (c .before .before .before .before .before .before .before) .memory)
-
-mul-numbers : tie.Need-mul-numbers Inv-loop μ-loop
-mul-numbers c = omega (arith, memory-here c)
-
-add-numbers : tie.Need-add-numbers Inv-loop μ-loop
-add-numbers c = omega (arith, few-here c, memory-here c)
-
-cast-numbers : tie.Need-cast-numbers Inv-loop μ-loop
-cast-numbers c = omega (arith, few-here c, memory-here c)
-
-element-write-numbers : tie.Need-element-write-numbers Inv-loop μ-loop
-element-write-numbers c = omega (arith, room-read (c .before .before .before))
-
-add-bounds : tie.Need-add-bounds Inv-loop μ-loop
-add-bounds c = omega (arith, room-read (c .before .before .before))
-
-mul-bounds : tie.Need-mul-bounds Inv-loop μ-loop
-mul-bounds c = omega arith
-
-element-write-bounds : tie.Need-element-write-bounds Inv-loop μ-loop
-element-write-bounds c = omega (arith, fine-here (c .before .before .before .before .before .before .before) .high)
+note-requires : tie.Need-note-requires Inv-loop μ-loop
+note-requires c κs =
+    let told = c .before .before in
+    let start = told .before .before .before .before .before .before .before .before .before .before in (
+      omega (arith, fine-list (wordsOf (start .args .grants .now)) (start .pre .0) .1, length-words (start .args .grants .now)),
+      (rw (told .word5 .ensures) (fine-here (told .before .before .before .before .before .before .before) .memory), room-read (told .before .before .before)),
+    )
 
 add-number : tie.Need-add-number Inv-loop μ-loop
 add-number c =
@@ -218,7 +205,7 @@ loop-again c =
       elim (k .came) [
         | inl w ↦
             let is = grant-read (ws-of l) (l .loop .i) _ _ _ _ _ (w .1 .ensures) (w .3 .ensures) (c .before .before .word .ensures) (c .before .word2 .ensures) (w .4 .ensures) in
-            kept-turn runs (whole in-loop) _ _ _ _ _ is (w .0 .taken) (k .starts) (k .lasts) (k .numbers) (k .bounds) (w .5) (w .6) (w .7) (w .8)
+            kept-turn runs (whole in-loop) _ _ _ _ _ is (w .0 .taken) (k .starts) (k .lasts) (k .numbers) (k .bounds) (w .8) (w .9) (w .10 ∙ w .7 .ensures .0) (w .11 ∙ w .7 .ensures .1)
         | inr w ↦ past-turn runs (whole in-loop) (omega arith) (k .starts) (k .lasts) (k .numbers) (k .bounds) (w .1) (w .2) (w .3) (w .4)
       ],
     )
@@ -252,15 +239,12 @@ place-spec =
     add-lasts
     mul-lasts
     element-write-lasts
-    add-word-4
-    word-requires-5
-    mul-numbers
-    add-numbers
-    cast-numbers
-    element-write-numbers
     add-bounds
     mul-bounds
     element-write-bounds
+    add-word-4
+    word-requires-5
+    note-requires
     add-number
     add-i
     loop-less
