@@ -23,7 +23,7 @@ use Rattle.asking.specs.Asked.{partIn}
 use Rattle.feeding.specs.Steps.{Standing, closes, leaves}
 use Rattle.engine.specs.declared.Engine.{Engine}
 use Rattle.engine.specs.Bits.{bitOf, marksOf}
-use Rattle.engine.specs.Kept.{closingReason, reasonBehind, pairJudged}
+use Rattle.engine.specs.Kept.{closingReason, reasonBehind, handed, pairJudged}
 use Rattle.engine.proofs.Bits.{marks-length, mark-at}
 
 -- ---- the loop over the cells
@@ -77,10 +77,10 @@ all-laid values marks state c full n laid =
 -- ---- closing
 
 -- the reason of an engine, from what it is told by
-pub told-of : (e : Engine) {c : ℕ} {p : Part} {r : ℕ} → c ≡ closingReason (e .reason) (e .left) → p ≡ partIn (e .bounds) 1
-    → r ≡ reasonBehind c (keptIn (e .starts) (e .lasts) (e .numbers) p (bitOf (e .marked) 1) (bitOf (e .marked) 2) (e .values ++ marksOf (e .marks)))
+pub told-of : (e : Engine) {p : Part} {r : ℕ} → p ≡ partIn (e .bounds) 1
+    → r ≡ reasonBehind (closingReason (e .reason) (e .left)) (keptIn (e .starts) (e .lasts) (e .numbers) p (bitOf (e .marked) 1) (bitOf (e .marked) 2) (e .values ++ marksOf (e .marks)))
     → r ≡ reasonBehind (closingReason (e .reason) (e .left)) (pairJudged e)
-told-of e stands its told = told ∙ rw (stands, its)
+told-of e its told = told ∙ rw its
 
 module _ (kept : Bool) (s : Standing) (new st : List ℕ) {r : ℕ} (told : r ≡ reasonBehind (closingReason (s .answer .reason) (s .left)) kept) where
   -- 10 or none, and then the pair, at a place
@@ -97,15 +97,10 @@ module _ (kept : Bool) (s : Standing) (new st : List ℕ) {r : ℕ} (told : r �
   closes-by : answer r (s .answer .place) ≡ closes kept s
   closes-by = rw told (by-reason (eqb (s .answer .reason) success) refl)
 
-  -- a refusal: the state as it was at opening
-  pub close-refused : r ≢ 0 → {state : List ℕ} → state ≡ st → (answer r (s .answer .place) ≡ closes kept s) × (state ≡ leaves kept s new st)
+  -- and the state is what that reason hands back
+  pub close-by : {state : List ℕ} → state ≡ handed r new st → (answer r (s .answer .place) ≡ closes kept s) × (state ≡ leaves kept s new st)
   unfolding leaves
-  close-refused n e = (closes-by, rw (sym closes-by, ne-eqb r 0 n) e)
-
-  -- none: with what the words wrote
-  pub close-whole : r ≡ 0 → {state : List ℕ} → state ≡ new → (answer r (s .answer .place) ≡ closes kept s) × (state ≡ leaves kept s new st)
-  unfolding leaves
-  close-whole z e = (closes-by, rw (sym closes-by, z) e)
+  close-by e = (closes-by, rw (sym closes-by) e)
 
 -- the reason that stands
 pub stood : (r k : ℕ) → r ≢ 0 → r ≡ closingReason r k
@@ -121,26 +116,33 @@ none r k z e = rw (z, e)
 
 -- ---- the pair, judged of the state that is laid out
 
-module _ (starts lasts numbers values marks marked : List ℕ) (part : Part) where
+-- by the reason c that the words ended with
+module _ (starts lasts numbers values before marks marked : List ℕ) (part : Part) {c r : ℕ} (stands : c ≡ r) where
   abbrev pair-kept : Bool
   pair-kept = keptIn starts lasts numbers part (bitOf marked 1) (bitOf marked 2) (values ++ marksOf marks)
 
-  -- a refusal goes first
-  pub before-pair : (r : ℕ) → r ≢ 0 → r ≡ reasonBehind r pair-kept
-  before-pair r n = rw (ne-eqb r 0 n)
+  -- the state with what the words write, and as it was
+  abbrev new : List ℕ
+  new = restored (bitOf marked 1) (bitOf marked 2) (values ++ marksOf marks)
 
-  module _ (r : ℕ) (z : r ≡ 0) {t l : ℕ} (first : t ≡ bitOf marked 1) (second : l ≡ bitOf marked 2) {laid : List ℕ} (is : laid ≡ values ++ marksOf marks)
+  abbrev old : List ℕ
+  old = before ++ marksOf marked
+
+  -- that reason goes first
+  pub before-pair : c ≢ 0 → {state : List ℕ} → state ≡ old → (c ≡ reasonBehind r pair-kept) × (state ≡ handed c new old)
+  before-pair n e = (rw (← stands, ne-eqb c 0 n), rw (ne-eqb c 0 n) e)
+
+  module _ (z : c ≡ 0) {t l : ℕ} (first : t ≡ bitOf marked 1) (second : l ≡ bitOf marked 2) {laid : List ℕ} (is : laid ≡ values ++ marksOf marks)
       {k : Bool} (judged : k ≡ keptIn starts lasts numbers part t l laid) where
     same : k ≡ pair-kept
     same = judged ∙ rw (first, second, is)
 
     -- 14,
-    pub pair-bad : not k ≡ true → badPair ≡ reasonBehind r pair-kept
+    pub pair-bad : not k ≡ true → {state : List ℕ} → state ≡ old → (badPair ≡ reasonBehind r pair-kept) × (state ≡ handed badPair new old)
     unfolding unless
-    pair-bad n = rw (z, told-false same n)
+    pair-bad n e = (rw (← stands, z, told-false same n), e)
 
     -- or none, and the marks of the pair are given back
-    pub pair-good : not k ≡ false → {back : List ℕ} → back ≡ restored t l laid
-        → (success ≡ reasonBehind r pair-kept) × (back ≡ restored (bitOf marked 1) (bitOf marked 2) (values ++ marksOf marks))
+    pub pair-good : not k ≡ false → {back : List ℕ} → back ≡ restored t l laid → (success ≡ reasonBehind r pair-kept) × (back ≡ handed success new old)
     unfolding unless
-    pair-good n given = (rw (z, told-true same n), given ∙ rw (first, second, is))
+    pair-good n given = (rw (← stands, z, told-true same n), given ∙ rw (first, second, is))

@@ -135,6 +135,10 @@ closingReason r k = cond (eqb r success) (ended k .reason) r
 abbrev pub reasonBehind : ℕ → Bool → ℕ
 reasonBehind r kept = cond (eqb r success) (unless kept badPair success) r
 
+-- what is handed back: the state with what the words write, where there is no reason; else as it was
+abbrev pub handed : ℕ → List ℕ → List ℕ → List ℕ
+handed r new old = cond (eqb r success) new old
+
 -- ---- what stands
 
 -- the state at opening

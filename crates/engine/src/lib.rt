@@ -15,7 +15,7 @@ ghost use Rattle.grants.specs.Kept.{Keeps};
 ghost use Rattle.asking.specs.Asked.{capped};
 ghost use Rattle.feeding.specs.Steps.{closes, leaves};
 ghost use Rattle.engine.specs.Bits.{bitOf, marksOf, withMark, packed};
-ghost use Rattle.engine.specs.Kept.{openingReason, byteBounds, blank, openedWith, fedWith, closingReason, reasonBehind, opening, standing, pairJudged, behind};
+ghost use Rattle.engine.specs.Kept.{openingReason, byteBounds, blank, openedWith, fedWith, closingReason, reasonBehind, handed, opening, standing, pairJudged, behind};
 use asking::ByteBounds;
 use grants::BOUNDS;
 use grants::Bounds;
@@ -282,11 +282,13 @@ fn closing_reason(reason: u32, left: u32) -> u32
     SUCCESS
 }
 
-// What closing answers, by the reason that the words ended with, and the state with what they write: laid out, its pair judged. What a refusal
-// leaves in the state is of no use.
-fn reason_behind<'a>(
-    ended: u32,
+// Lays out the state that closing hands back, and tells what it answers, by the reason and the position that stand: with what the words write,
+// if they end a packet and their pair is kept; else as it was at opening.
+fn hand_back<'a>(
+    reason: u32,
+    left: u32,
     values: &'a Values,
+    before: &'a Values,
     marks: &'a Marks,
     marked: &'a Marks,
     starts: &'a Spans,
@@ -297,17 +299,19 @@ fn reason_behind<'a>(
 ) -> u32
     requires array { ⌜ length (now state) ≡ stateWords ⌝ }
     requires inside { ⌜ part .to ≤ mostGrants ⌝ }
-    ensures reason { λ r. ⌜ r ≡ reasonBehind ended (keptIn (now (starts .entry)) (now (lasts .entry)) (now (numbers .entry)) part (bitOf (now (marked .entry)) 1) (bitOf (now (marked .entry)) 2) (now (values .entry) ++ marksOf (now (marks .entry)))) ⌝ }
-    ensures state { λ r. ⌜ (r ≡ 0 → now (state .exit) ≡ restored (bitOf (now (marked .entry)) 1) (bitOf (now (marked .entry)) 2) (now (values .entry) ++ marksOf (now (marks .entry)))) ⌝ }
-    ensures size { λ _. ⌜ length (now (state .exit)) ≡ stateWords ⌝ }
+    ensures reason { λ r. ⌜ r ≡ reasonBehind (closingReason reason left) (keptIn (now (starts .entry)) (now (lasts .entry)) (now (numbers .entry)) part (bitOf (now (marked .entry)) 1) (bitOf (now (marked .entry)) 2) (now (values .entry) ++ marksOf (now (marks .entry)))) ⌝ }
+    ensures state { λ r. ⌜ now (state .exit) ≡ handed r (restored (bitOf (now (marked .entry)) 1) (bitOf (now (marked .entry)) 2) (now (values .entry) ++ marksOf (now (marks .entry)))) (now (before .entry) ++ marksOf (now (marked .entry))) ⌝ }
 {
+    let ended = closing_reason(reason, left);
     if ended != 0 {
+        lay(before, marked, state);
         return ended;
     }
     lay(values, marks, state);
     let target = mark_in(marked, TARGET_CELL);
     let location = mark_in(marked, LOCATION_CELL);
     if !pair::kept(target, location, state, starts, lasts, numbers, part, false) {
+        lay(before, marked, state);
         return BAD_PAIR;
     }
     SUCCESS
@@ -320,11 +324,12 @@ pub fn close(engine: Engine) -> Closed
 {
     let mut state = [0u32; STATE_WORDS];
     let place = engine.place as usize;
-    let ended = closing_reason(engine.reason, engine.left);
     let part = asking::part_of(&engine.bounds, 1);
-    let reason = reason_behind(
-        ended,
+    let reason = hand_back(
+        engine.reason,
+        engine.left,
         &engine.values,
+        &engine.before,
         &engine.marks,
         &engine.marked,
         &engine.starts,
@@ -333,13 +338,6 @@ pub fn close(engine: Engine) -> Closed
         part,
         &mut state,
     );
-    if reason != 0 {
-        lay(&engine.before, &engine.marked, &mut state);
-        return Closed {
-            answer: Answer { reason, place },
-            state,
-        };
-    }
     Closed {
         answer: Answer { reason, place },
         state,
