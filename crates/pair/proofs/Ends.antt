@@ -18,11 +18,12 @@ use Rattle.meaning.specs.declared.Answer.{Answer}
 use Rattle.meaning.specs.Registers.{cell, address, registerAt, registerIn, registerAmong, sections, targetGroup}
 use Rattle.meaning.specs.Grants.{Terms, termsOf, grantsOf, grantsFine, granted, isGrant}
 use Rattle.meaning.specs.Batch.{reaches, Packet}
-use Rattle.meaning.specs.State.{stateWords, markAt, Write, applyAll, allWrites}
+use Rattle.meaning.specs.State.{stateWords, valueAt, markAt, Write, applyAll, allWrites}
 use Rattle.meaning.specs.Pair.{targetCell, locationCell, targetOf, pairKept}
 use Rattle.meaning.specs.Positions.{writesOf}
 use Rattle.meaning.specs.Answers.{badPair, answer}
 use Rattle.meaning.specs.Reader.{unless, batchAnswer, pairedAnswer}
+use Rattle.meaning.specs.Reasons.{CellFine}
 use Rattle.meaning.proofs.Reading.{batch-permitted}
 use Rattle.meaning.proofs.Writes.{writes-of-cut}
 use Rattle.meaning.proofs.EachWrite.{each-write}
@@ -61,7 +62,7 @@ module _ (g : Terms) (st batch : List ℕ) {a : Answer} (h : a ≡ batchAnswer g
     unfolding pairedAnswer unless
     good x = rw (sym h, z, told-true kept x)
 
--- ---- an address that came back is known
+-- ---- an address that is known
 
 -- the target's value: of 24 bits, and its address is granted somewhere
 abbrev Granted : Terms → ℕ → ℕ → Type 0
@@ -82,18 +83,30 @@ writes-granted g ps a =
     (λ c v l n s e. absurd (let here : registerAt c .width ≡ 24 = ap (λ (k : ℕ). registerAt (cell k) .width) e ∙ target-register .0 in omega (arith, l .1)))
     ps a (all-unit (join ps))
 
--- so where no grant is in memory 1, an address that came back is granted in memory 0
+-- where memory 0 is all there is
 module _ (ws : List ℕ) (starts lasts numbers bounds : List ℕ) (names : Names (termsOf ws) starts lasts numbers bounds)
-    (near : (role a : ℕ) → granted (grantsOf ws) (Only 0) role a ≡ granted (grantsOf ws) Either role a)
-    (st batch : List ℕ) (n : length st ≡ stateWords) (z : batchAnswer (termsOf ws) batch .reason ≡ 0) where
-  pub known-local : KnownLocal starts lasts numbers (partOf bounds 1) (applyAll (cleared st) (writesOf batch))
-  known-local m =
+    (near : (role a : ℕ) → granted (grantsOf ws) (Only 0) role a ≡ granted (grantsOf ws) Either role a) where
+  local : (a : ℕ) → T (granted (grantsOf ws) Either 1 a) → T (isGrant (whichIn starts lasts numbers (partOf bounds 1) (Only 0) a))
+  local a t =
+      let same : granted (grantsOf ws) Either 1 a ≡ isGrant (whichIn starts lasts numbers (partOf bounds 1) (Only 0) a) =
+      sym (near 1 a) ∙ granted-which (grantsOf ws) (Only 0) 1 a ∙ ap isGrant (names (Only 0) 1 (omega arith) (omega arith) a) in
+      rw same at t
+
+  -- an address that may be written is granted there,
+  pub known-held : (st : List ℕ) → CellFine (termsOf ws) st targetCell → KnownLocal starts lasts numbers (partOf bounds 1) st
+  known-held st fine m =
+      let held = fine m in
+      let v = valueAt st targetCell in
+      (rw (target-register .0) at (held .narrow), local (v * 256) (rw (target-register .1 v) at (held .fits .granted)))
+
+  -- and so is one that came back
+  pub known-local : (st batch : List ℕ) → length st ≡ stateWords → batchAnswer (termsOf ws) batch .reason ≡ 0
+      → KnownLocal starts lasts numbers (partOf bounds 1) (applyAll (cleared st) (writesOf batch))
+  known-local st batch n z m =
       let g = termsOf ws in
       let c = batch-permitted g batch .0 z in
       let now = applyAll (cleared st) (writesOf batch) in
       let at-first : Each (Granted g) (cleared st) = λ i l k e. absurd (omega (arith, rw e at k, cleared-target st n)) in
       let writes : All (λ w. Granted g (w .cell .0) (w .value)) (writesOf batch) = rw (writes-of-cut g batch c) (writes-granted g (c .packets) (c .permitted)) in
       let here = each-after-all (Granted g) (cleared st) (writesOf batch) (writes-low g batch z) writes (cleared-length st ∙ n) at-first 1 (omega arith) m refl in
-      let same : granted (grantsOf ws) Either 1 (targetOf now) ≡ isGrant (whichIn starts lasts numbers (partOf bounds 1) (Only 0) (targetOf now)) =
-      sym (near 1 (targetOf now)) ∙ granted-which (grantsOf ws) (Only 0) 1 (targetOf now) ∙ ap isGrant (names (Only 0) 1 (omega arith) (omega arith) (targetOf now)) in
-      (here .0, rw same at (here .1))
+      (here .0, local (targetOf now) (here .1))

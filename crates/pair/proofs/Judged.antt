@@ -76,6 +76,32 @@ module _ (starts lasts numbers : List ℕ) (part : Part) (p : Pair) where
     unfolding fineIn
     somebody f = rw (lt-ltb 0 (p .marked) (omega arith), ← e, f)
 
+  -- an address that is known to be granted in memory 0, where that is its memory
+  known-there : {m : ℕ} → m ≡ 0 → m ≡ memoryNamed (p .located) (p .location) → p .target < 2 ^ 24 → T (isGrant (whichIn starts lasts numbers part (Only 0) (p .target * 256)))
+      → true ≡ fineIn starts lasts numbers part p
+  unfolding fineIn whichPair
+  known-there z e narrow there =
+      sym (implied (ltb 0 (p .marked)) (rw (lt-ltb (p .target) (2 ^ 24) narrow, sym e ∙ z) (true-of (isGrant (whichIn starts lasts numbers part (Only 0) (p .target * 256))) there)))
+    where
+      implied : (x : Bool) {y : Bool} → y ≡ true → implies x y ≡ true
+      implied true y = y
+      implied false y = refl
+
+-- what `settled` tells
+settled-told : (known : Bool) (mark memory : ℕ) {s : Bool} → s ≡ (known && (ltb 0 mark && eqb memory 0)) → s ≡ true → (known ≡ true) × (0 < mark) × (memory ≡ 0)
+settled-told known mark memory told t =
+    let all = and-yes known _ (holds-of (sym told ∙ t)) in
+    let both = and-yes (ltb 0 mark) _ (all .1) in
+    (true-of known (all .0), ltb-yes (both .0), eqb-yes (both .1))
+
+-- and that of `fine`: so the pair of a state is fine
+pub known-state : (starts lasts numbers : List ℕ) (part : Part) (st : List ℕ) {p : Pair} → p ≡ pairOf st → {known s : Bool} → (known ≡ true → KnownLocal starts lasts numbers part st)
+    → s ≡ (known && (ltb 0 (p .marked) && eqb (memoryNamed (p .located) (p .location)) 0)) → s ≡ true → true ≡ fineIn starts lasts numbers part (pairOf st)
+known-state starts lasts numbers part st {p} e {known} is told t =
+    let all : (known ≡ true) × (0 < markAt st targetCell) × (memoryNamed (markAt st locationCell) (valueAt st locationCell) ≡ 0) = rw e at (settled-told known (p .marked) (memoryNamed (p .located) (p .location)) told t) in
+    let here = is (all .0) (all .1) in
+    known-there starts lasts numbers part (pairOf st) (all .2) refl (here .0) (here .1)
+
 -- ---- and those of `kept`
 
 -- now: the copy behind the batch; target and location: the marks that it was entered with
@@ -117,18 +143,9 @@ module _ (target location : ℕ) (now : List ℕ) (n : length now ≡ stateWords
       one t r = rw (told-true came t) (r ∙ ap (fineIn starts lasts numbers part) (sym same-pair) ∙ ap (λ (x : List ℕ). fineIn starts lasts numbers part (pairOf x)) given)
 
     -- an address that came back, in memory 0, is known to be granted there
-    pub known-fine : {known s : Bool} {m : ℕ} → (known ≡ true → KnownLocal starts lasts numbers part now) → m ≡ memoryNamed located (getD after 2 0)
-        → s ≡ (known && (ltb 0 (markAt now targetCell) && eqb m 0)) → s ≡ true → true ≡ fineIn starts lasts numbers part judged
-    unfolding fineIn whichPair
-    known-fine {known} {s} {m} is names told t =
-        let all = and-yes known _ (holds-of (sym told ∙ t)) in
-        let both = and-yes (ltb 0 (markAt now targetCell)) _ (all .1) in
-        let here = is (true-of known (all .0)) (ltb-yes (both .0)) in
-        let zero : memoryNamed located (getD after 2 0) ≡ 0 = sym names ∙ eqb-yes (both .1) in
-        let granted : isGrant (whichIn starts lasts numbers part (Only (memoryNamed located (getD after 2 0))) (getD after 1 0 * 256)) ≡ true =
-        rw (zero, same-target) (true-of (isGrant (whichIn starts lasts numbers part (Only 0) (valueAt now targetCell * 256))) (here .1)) in
-        sym (implied (ltb 0 marked) (rw (lt-ltb (getD after 1 0) (2 ^ 24) (omega (arith, same-target, here .0))) granted))
-      where
-        implied : (x : Bool) {y : Bool} → y ≡ true → implies x y ≡ true
-        implied true y = y
-        implied false y = refl
+    pub known-fine : {known s : Bool} → (known ≡ true → KnownLocal starts lasts numbers part now)
+        → s ≡ (known && (ltb 0 (markAt now targetCell) && eqb (memoryNamed located (getD after 2 0)) 0)) → s ≡ true → true ≡ fineIn starts lasts numbers part judged
+    known-fine {known} is told t =
+        let all = settled-told known (markAt now targetCell) (memoryNamed located (getD after 2 0)) told t in
+        let here = is (all .0) (all .1) in
+        known-there starts lasts numbers part judged (all .2) refl (omega (arith, same-target, here .0)) (rw same-target (here .1))

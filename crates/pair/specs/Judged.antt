@@ -43,7 +43,8 @@ unfoldable pub keptIn : List ℕ → List ℕ → List ℕ → Part → ℕ → 
 keptIn starts lasts numbers part target location now =
     implies (cameBack now) (fineIn starts lasts numbers part (pairOf (restored target location now)))
 
--- an address that came back is granted in memory 0
+-- the target's address, where cell 1 is marked, is granted in memory 0: of a state, and of the copy behind a batch, where it is of an address
+-- that came back
 abbrev pub KnownLocal : List ℕ → List ℕ → List ℕ → Part → List ℕ → Type 0
-KnownLocal starts lasts numbers part now =
-    0 < markAt now targetCell → (valueAt now targetCell < 2 ^ 24) × T (isGrant (whichIn starts lasts numbers part (Only 0) (targetOf now)))
+KnownLocal starts lasts numbers part st =
+    0 < markAt st targetCell → (valueAt st targetCell < 2 ^ 24) × T (isGrant (whichIn starts lasts numbers part (Only 0) (targetOf st)))

@@ -83,6 +83,20 @@ fn fine_of(pair: Pair, starts: &Spans, lasts: &Spans, numbers: &Numbers, part: P
     true
 }
 
+// An address that is known to be granted in memory 0 needs no second look if it is there that it lies. `mark` is 0 where there is none that
+// is known. The memory is made out last, where it is asked.
+fn settled(known: bool, mark: u32, located: u32, location: u32) -> bool
+    ensures settled { λ r. ⌜ r ≡ (known && (ltb 0 mark && eqb (memoryNamed located location) 0)) ⌝ }
+{
+    if !known {
+        return false;
+    }
+    if mark == 0 {
+        return false;
+    }
+    memory(located, location) == 0
+}
+
 // The same two for a state.
 pub fn which(state: &[u8], starts: &Spans, lasts: &Spans, numbers: &Numbers, part: Part) -> Which
     requires whole { ⌜ length (wordsOf (now state)) ≡ stateWords ⌝ }
@@ -92,12 +106,25 @@ pub fn which(state: &[u8], starts: &Spans, lasts: &Spans, numbers: &Numbers, par
     which_of(pair_of(state), starts, lasts, numbers, part)
 }
 
-pub fn fine(state: &[u8], starts: &Spans, lasts: &Spans, numbers: &Numbers, part: Part) -> bool
+// `known` says that its address, if it has one, is granted in memory 0, which the caller may have seen.
+pub fn fine(
+    state: &[u8],
+    starts: &Spans,
+    lasts: &Spans,
+    numbers: &Numbers,
+    part: Part,
+    known: bool,
+) -> bool
     requires whole { ⌜ length (wordsOf (now state)) ≡ stateWords ⌝ }
     requires inside { ⌜ part .to ≤ mostGrants ⌝ }
+    requires known { ⌜ (known ≡ true → KnownLocal (now starts) (now lasts) (now numbers) part (wordsOf (now state))) ⌝ }
     ensures fine { λ r. ⌜ r ≡ fineIn (now (starts .entry)) (now (lasts .entry)) (now (numbers .entry)) part (pairOf (wordsOf (now (state .entry)))) ⌝ }
 {
-    fine_of(pair_of(state), starts, lasts, numbers, part)
+    let pair = pair_of(state);
+    if settled(known, pair.marked, pair.located, pair.location) {
+        return true;
+    }
+    fine_of(pair, starts, lasts, numbers, part)
 }
 
 // A mark that has not come back is as it was.
@@ -118,20 +145,6 @@ fn either(one: u32, other: u32) -> bool
         return true;
     }
     0 < other
-}
-
-// An address that is known to be granted in memory 0 needs no second look if it is there that it lies: `known` is of an address that the
-// batch wrote.
-fn settled(known: bool, mark: u32, memory: u32) -> bool
-    ensures settled { λ r. ⌜ r ≡ (known && (ltb 0 mark && eqb memory 0)) ⌝ }
-{
-    if !known {
-        return false;
-    }
-    if mark == 0 {
-        return false;
-    }
-    memory == 0
 }
 
 // Gives the two marks back as they are behind the batch, from `target` and `location`, those that it was entered with. Whether the batch
@@ -168,7 +181,7 @@ pub fn kept(
         location: own[LOCATION_CELL],
         located,
     };
-    if settled(known, t, memory(located, pair.location)) {
+    if settled(known, t, located, pair.location) {
         return true;
     }
     fine_of(pair, starts, lasts, numbers, part)

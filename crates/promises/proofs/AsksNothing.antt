@@ -261,7 +261,8 @@ place-asks κs a = asks-this
 pub pair-which-asks : AsksExactly pair-which.Asked (λ _ (state, (_, (_, (_, (part, _))))). (length (wordsOf (now state)) ≡ stateWords) × (part .to ≤ mostGrants))
 pair-which-asks κs a = asks-this
 
-pub pair-fine-asks : AsksExactly pair-fine.Asked (λ _ (state, (_, (_, (_, (part, _))))). (length (wordsOf (now state)) ≡ stateWords) × (part .to ≤ mostGrants))
+pub pair-fine-asks : AsksExactly pair-fine.Asked (λ _ (state, (starts, (lasts, (numbers, (part, (known, _)))))).
+    (length (wordsOf (now state)) ≡ stateWords) × ((part .to ≤ mostGrants) × (known ≡ true → KnownLocal (now starts) (now lasts) (now numbers) part (wordsOf (now state)))))
 pair-fine-asks κs a = asks-this
 
 pub pair-kept-asks : AsksExactly pair-kept.Asked (λ _ (_, (_, (own, (starts, (lasts, (numbers, (part, (known, _)))))))).

@@ -16,18 +16,21 @@ use Rattle.meaning.specs.declared.Found.{Found}
 use Rattle.meaning.specs.declared.Found.the-variants.{At, Missing}
 use Rattle.meaning.specs.declared.Answer.{Answer}
 use Rattle.meaning.specs.Registers.{cells, firstVideo, cell, targetGroup, stage, sample, overlay, scaler, sections, registerAmong, registerIn, registerAt}
-use Rattle.meaning.specs.Grants.{Terms, grantsFine, termsOf}
+use Rattle.meaning.specs.declared.Memory.the-variants.{Either, Only}
+use Rattle.meaning.specs.Grants.{Terms, grantsOf, grantsFine, granted, termsOf}
 use Rattle.meaning.specs.State.{marked, wellFormed}
 use Rattle.meaning.specs.Pair.{targetCell, pairFine}
 use Rattle.meaning.specs.Answers.{badState, badGrants, noRoom, notWritable, success, answer}
+use Rattle.meaning.specs.Reasons.{CellFine}
 use Rattle.meaning.specs.Writer.{written, needFor, lowestBad, withPair, exceptAt, writeAnswer}
 use Rattle.meaning.proofs.Writing.{need-is-length}
 use Rattle.meaning.proofs.Round.{Lowest, lowest-told}
 use Rattle.emitter_3d.specs.Emitted.{Narrow}
 use Rattle.grants.specs.declared.Part.{Part}
 use Rattle.grants.specs.Kept.{Names, partOf}
-use Rattle.pair.specs.Judged.{pairOf, fineIn}
+use Rattle.pair.specs.Judged.{pairOf, fineIn, KnownLocal}
 use Rattle.pair.proofs.Judged.{fine-is}
+use Rattle.pair.proofs.Ends.{known-held}
 use Rattle.search.specs.Search.{orEnd, lowest}
 use Rattle.writer.specs.Lowest.{lowestWith}
 
@@ -60,6 +63,18 @@ module _ (g : Terms) (st : List ℕ) where
       → Tells (withPair (pairFine g st) (lowestBad g st 0 cells)) low × (cells ≤ low → lowestBad g st 0 cells ≡ Missing)
   unfolding lowest
   told e = with-pair (pairFine g st) (lowestBad g st 0 cells) (lowest-told g st 0 cells) e
+
+-- where memory 0 is all there is, the address that the search has let pass is known to be granted there
+pub passed : (ws st : List ℕ) (starts lasts numbers bounds : List ℕ) → Names (termsOf ws) starts lasts numbers bounds
+    → ((role a : ℕ) → granted (grantsOf ws) (Only 0) role a ≡ granted (grantsOf ws) Either role a)
+    → {found : ℕ} {part : Part} → found ≡ lowest (termsOf ws) st 0 cells → part ≡ partOf bounds 1 → 1 < found → KnownLocal starts lasts numbers part st
+unfolding lowest
+passed ws st starts lasts numbers bounds names near {found} e its l =
+    rw its (known-held ws starts lasts numbers bounds names near st (cell-1 (lowestBad (termsOf ws) st 0 cells) (lowest-told (termsOf ws) st 0 cells) (rw e at l)))
+  where
+    cell-1 : (f : Found) → Lowest (termsOf ws) st 0 cells f → 1 < orEnd f cells → CellFine (termsOf ws) st targetCell
+    cell-1 (At c) is l = is .before 1 (omega arith) l
+    cell-1 Missing is l = is 1 (omega arith) (omega arith)
 
 -- what is judged of the pair under kept grants is what the definitions say of it
 pub paired : (ws st : List ℕ) → T (grantsFine ws) → (starts lasts numbers bounds : List ℕ) → Names (termsOf ws) starts lasts numbers bounds

@@ -1,6 +1,7 @@
 // The writer: a state as the batch that reaches it from the empty state.
 ghost use mathlib.Core.Path.{_≡_};
-ghost use Prim.Native.Nat.{_/_, _≤_};
+ghost use mathlib.Core.Bool.{true};
+ghost use Prim.Native.Nat.{_/_, _≤_, _<_};
 ghost use lib.ListN.{length};
 ghost use Rattle.laws.specs.Lists.{over};
 ghost use Rattle.meaning.specs.Words.{wordsOf, bytesOf};
@@ -8,9 +9,10 @@ ghost use Rattle.meaning.specs.Grants.{mostGrants};
 ghost use Rattle.meaning.specs.State.{stateWords};
 ghost use Rattle.meaning.specs.Answers.{answer, settle};
 ghost use Rattle.meaning.specs.Writer.{written, writeAnswer};
-ghost use Rattle.pair.specs.Judged.{pairOf, fineIn};
+ghost use Rattle.pair.specs.Judged.{pairOf, fineIn, KnownLocal};
 ghost use Rattle.writer.specs.Lowest.{lowestWith};
 use grants::BOUNDS;
+use grants::IN_MEMORY_1;
 use grants::Numbers;
 use grants::Part;
 use grants::Spans;
@@ -32,6 +34,7 @@ fn refused(reason: u32) -> Answer
 }
 
 // The lowest cell that may not be written, or 101: what the search found, or cell 1 for a pair that is not fine, where cell 0 may be written.
+// `near` says that no kept grant is in memory 1: an address that the search has let pass is then granted in memory 0.
 fn with_pair(
     found: usize,
     state: &[u8],
@@ -39,15 +42,18 @@ fn with_pair(
     lasts: &Spans,
     numbers: &Numbers,
     part: Part,
+    near: bool,
 ) -> usize
     requires whole { ⌜ length (wordsOf (now state)) ≡ stateWords ⌝ }
     requires inside { ⌜ part .to ≤ mostGrants ⌝ }
+    requires near { ⌜ (near ≡ true → 1 < found → KnownLocal (now starts) (now lasts) (now numbers) part (wordsOf (now state))) ⌝ }
     ensures lowest { λ r. ⌜ r ≡ lowestWith (fineIn (now (starts .entry)) (now (lasts .entry)) (now (numbers .entry)) part (pairOf (wordsOf (now (state .entry))))) found ⌝ }
 {
     if found == 0 {
         return 0;
     }
-    if !pair::fine(state, starts, lasts, numbers, part) {
+    let known = near && found != TARGET_CELL;
+    if !pair::fine(state, starts, lasts, numbers, part, known) {
         return TARGET_CELL;
     }
     found
@@ -73,7 +79,8 @@ pub fn write(state: &[u8], grants: &[u8], out: &mut [u8]) -> Answer
     keeping::place(grants, &mut starts, &mut lasts, &mut numbers, &mut bounds);
     let found = search::lowest_bad(state, &starts, &lasts, &numbers, &bounds);
     let part = grants::part_of(&bounds, 1);
-    let lowest = with_pair(found, state, &starts, &lasts, &numbers, part);
+    let near = bounds[IN_MEMORY_1] == 0;
+    let lowest = with_pair(found, state, &starts, &lasts, &numbers, part, near);
     if lowest < CELLS {
         return Answer {
             reason: NOT_WRITABLE,

@@ -72,36 +72,33 @@ returns c =
     let e = c .before in
     (neither _ _ (now e) (start e .pre .0) (e .before .before .back-to .ensures) (e .before .back-to2 .ensures) _ _ _ _ (e .either .ensures) (c .if1 .taken), left e)
 
-element-copy-out-settled : tie.Need-element-copy-out-settled
-element-copy-out-settled c = search needs
+element-copy-out-t18 : tie.Need-element-copy-out-t18
+element-copy-out-t18 c = search needs
 
 element-copy-out-t31 : tie.Need-element-copy-out-t31
 element-copy-out-t31 c = search needs
-
-memory-requires : tie.Need-memory-requires
-memory-requires c κs = search needs
 
 settled-requires : tie.Need-settled-requires
 settled-requires c κs = search needs
 
 returns-2 : tie.Need-returns-2
 returns-2 c =
-    let e = c .before .before .before .before .before .before in
+    let e = c .before .before .before .before .before in
     let first = e .before .before .back-to .ensures in
     let second = e .before .back-to2 .ensures in
     let fine = known-fine _ _ (now e) (start e .pre .0) first second (start e .args .starts .now) (start e .args .lasts .now) (start e .args .numbers .now) (start e .args .part)
-    (start e .pre .1 .1) (c .before .before .memory .ensures) (c .before .settled .ensures) (c .if2 .taken) in
-    (one _ _ (now e) (start e .pre .0) first second _ _ _ _ (e .either .ensures) (c .before .before .before .before .before .if1 .left) fine, left e)
+    (start e .pre .1 .1) (c .before .settled .ensures) (c .if2 .taken) in
+    (one _ _ (now e) (start e .pre .0) first second _ _ _ _ (e .either .ensures) (c .before .before .before .before .if1 .left) fine, left e)
 
 fine-of-requires : tie.Need-fine-of-requires
 fine-of-requires c κs = search needs
 
 returns-3 : tie.Need-returns-3
 returns-3 c =
-    let e = c .before .before .before .before .before .before .before in
+    let e = c .before .before .before .before .before .before in
     let first = e .before .before .back-to .ensures in
     let second = e .before .back-to2 .ensures in
-    (one _ _ (now e) (start e .pre .0) first second _ _ _ _ (e .either .ensures) (c .before .before .before .before .before .before .if1 .left) (c .fine-of .ensures), left e)
+    (one _ _ (now e) (start e .pre .0) first second _ _ _ _ (e .either .ensures) (c .before .before .before .before .before .if1 .left) (c .fine-of .ensures), left e)
 
 pub kept-spec : {M : Type 1} → statement M
 kept-spec =
@@ -123,9 +120,8 @@ kept-spec =
     element-write-own-2
     either-requires
     returns
-    element-copy-out-settled
+    element-copy-out-t18
     element-copy-out-t31
-    memory-requires
     settled-requires
     returns-2
     fine-of-requires

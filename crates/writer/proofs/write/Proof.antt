@@ -4,6 +4,7 @@ use mathlib.Core.Path.{_≡_, refl, _∙_}
 use mathlib.Core.Bool.{true}
 use native.Mathlib.Omega.{arith}
 use lib.ListN.{length}
+use mir.Facts.{eqb-yes}
 use Rattle.laws.proofs.Arms.{told-true, told-false}
 use Rattle.laws.proofs.Tests.{holds-of}
 use Rattle.meaning.specs.Words.{wordsOf}
@@ -14,9 +15,9 @@ use Rattle.meaning.specs.Pair.{pairFine}
 use Rattle.grants.specs.Kept.{Keeps, Names, Bounded}
 use Rattle.search.specs.Search.{lowest}
 use Rattle.meaning.proofs.States.{formed-iff}
-use Rattle.keeping.proofs.Keeping.{begun-by, names-after, kept-after}
+use Rattle.keeping.proofs.Keeping.{begun-by, names-after, kept-after, near-after}
 use Rattle.writer.specs.Lowest.{lowestWith}
-use Rattle.writer.proofs.Answers.{paired, none-narrow, as-written, room-for, refused-state, refused-grants, refused-cell, refused-room, done}
+use Rattle.writer.proofs.Answers.{passed, paired, none-narrow, as-written, room-for, refused-state, refused-grants, refused-cell, refused-room, done}
 use borrow.Author.Needs.{needs}
 use Rattle.writer.proofs.write.Statement.{statement}
 use Rattle.writer.proofs.write.Tie as tie
@@ -79,10 +80,23 @@ lowest-bad-requires c κs = let p = c .before .before .before .before in (holds-
 part-of-requires : tie.Need-part-of-requires
 part-of-requires c κs = search needs
 
+array-read-near : tie.Need-array-read-near
+array-read-near c = search needs
+
 with-pair-requires : tie.Need-with-pair-requires
 with-pair-requires c κs =
     let p = c .before .before .before .before .before .before .before .before .before .before in
-    (formed-whole (else-1 (else-2 p)), rw (c .before .before .before .part-of .ensures) (named p .1 1 (omega arith)))
+    let a = start (else-2 p) .args in
+    let k = p .place .last in
+    let its = c .before .before .before .part-of .ensures in (
+      formed-whole (else-1 (else-2 p)),
+      (
+        rw its (named p .1 1 (omega arith)),
+        λ t l. passed (wordsOf (a .grants .now)) (wordsOf (a .state .now)) (k .1 .0) (k .1 .1 .0) (k .1 .1 .1 .0) (k .1 .1 .1 .1 .0) (named p .0)
+            (near-after _ _ _ _ (refl, (refl, refl)) (fine (else-2 p)) (p .place .ensures) (eqb-yes (holds-of t)))
+            (c .before .before .before .before .before .lowest-bad .ensures _ (kept p)) its l,
+      ),
+    )
 
 -- the lowest bad cell, by the search and by the pair
 abbrev placed : tie.After-with-pair → tie.After-place
@@ -151,6 +165,7 @@ write-spec =
     place-requires
     lowest-bad-requires
     part-of-requires
+    array-read-near
     with-pair-requires
     returns-3
     needed-requires
