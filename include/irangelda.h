@@ -74,6 +74,10 @@ extern "C" {
 #define IRANGELDA_ROLE_FIRST_SCALER 2u
 #define IRANGELDA_ROLE_SECOND_SCALER 3u
 
+/* The memory of a grant: the local frame buffer, or the dynamic one in system memory, which only a target may lie in. */
+#define IRANGELDA_MEMORY_LOCAL 0u
+#define IRANGELDA_MEMORY_DYNAMIC 1u
+
 /*
  * The answer of each call is one number, place * 256 + reason. Places in a batch are counted in words, from 0; places in a listing
  * in bytes, from 0.

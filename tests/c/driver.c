@@ -109,9 +109,9 @@ static void start(struct client *client, uint32_t memory)
 {
     uint32_t first = memory + TARGET_REACH, second = first + SCALER_REACH;
     memset(client, 0, sizeof *client);
-    add_grant(client, IRANGELDA_ROLE_TARGET, memory, TARGET_REACH, TARGET_REACH, 0);
-    add_grant(client, IRANGELDA_ROLE_FIRST_SCALER, first, SCALER_REACH, SCALER_REACH, 0);
-    add_grant(client, IRANGELDA_ROLE_SECOND_SCALER, second, SCALER_REACH, SCALER_REACH, 0);
+    add_grant(client, IRANGELDA_ROLE_TARGET, memory, TARGET_REACH, TARGET_REACH, IRANGELDA_MEMORY_LOCAL);
+    add_grant(client, IRANGELDA_ROLE_FIRST_SCALER, first, SCALER_REACH, SCALER_REACH, IRANGELDA_MEMORY_LOCAL);
+    add_grant(client, IRANGELDA_ROLE_SECOND_SCALER, second, SCALER_REACH, SCALER_REACH, IRANGELDA_MEMORY_LOCAL);
     house(client->state, memory, first, second);
 }
 

@@ -65,7 +65,7 @@ pub fn read(batch: &[u8], grants: &[u8], state: &mut [u8]) -> Answer
     let target = states::mark(state, Cell(TARGET_CELL));
     let location = states::mark(state, Cell(LOCATION_CELL));
     let part = grants::part_of(&bounds, 1);
-    // Where no grant is in memory 1, an address that the batch wrote was found in memory 0.
+    // Where no kept grant is in memory 1, an address that the batch wrote was found in memory 0.
     let known = bounds[IN_MEMORY_1] == 0;
     if !pair::kept(
         target,
