@@ -77,11 +77,11 @@ module _ (starts lasts numbers : List ℕ) (part : Part) (p : Pair) where
     somebody f = rw (lt-ltb 0 (p .marked) (omega arith), ← e, f)
 
   -- an address that is known to be granted in memory 0, where that is its memory
-  known-there : {m : ℕ} → m ≡ 0 → m ≡ memoryNamed (p .located) (p .location) → p .target < 2 ^ 24 → T (isGrant (whichIn starts lasts numbers part (Only 0) (p .target * 256)))
+  known-there : memoryNamed (p .located) (p .location) ≡ 0 → p .target < 2 ^ 24 → T (isGrant (whichIn starts lasts numbers part (Only 0) (p .target * 256)))
       → true ≡ fineIn starts lasts numbers part p
   unfolding fineIn whichPair
-  known-there z e narrow there =
-      sym (implied (ltb 0 (p .marked)) (rw (lt-ltb (p .target) (2 ^ 24) narrow, sym e ∙ z) (true-of (isGrant (whichIn starts lasts numbers part (Only 0) (p .target * 256))) there)))
+  known-there zero narrow there =
+      sym (implied (ltb 0 (p .marked)) (rw (lt-ltb (p .target) (2 ^ 24) narrow, zero) (true-of (isGrant (whichIn starts lasts numbers part (Only 0) (p .target * 256))) there)))
     where
       implied : (x : Bool) {y : Bool} → y ≡ true → implies x y ≡ true
       implied true y = y
@@ -100,7 +100,7 @@ pub known-state : (starts lasts numbers : List ℕ) (part : Part) (st : List ℕ
 known-state starts lasts numbers part st {p} e {known} is told t =
     let all : (known ≡ true) × (0 < markAt st targetCell) × (memoryNamed (markAt st locationCell) (valueAt st locationCell) ≡ 0) = rw e at (settled-told known (p .marked) (memoryNamed (p .located) (p .location)) told t) in
     let here = is (all .0) (all .1) in
-    known-there starts lasts numbers part (pairOf st) (all .2) refl (here .0) (here .1)
+    known-there starts lasts numbers part (pairOf st) (all .2) (here .0) (here .1)
 
 -- ---- and those of `kept`
 
@@ -148,4 +148,4 @@ module _ (target location : ℕ) (now : List ℕ) (n : length now ≡ stateWords
     known-fine {known} is told t =
         let all = settled-told known (markAt now targetCell) (memoryNamed located (getD after 2 0)) told t in
         let here = is (all .0) (all .1) in
-        known-there starts lasts numbers part judged (all .2) refl (omega (arith, same-target, here .0)) (rw same-target (here .1))
+        known-there starts lasts numbers part judged (all .2) (omega (arith, same-target, here .0)) (rw same-target (here .1))
