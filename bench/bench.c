@@ -1,5 +1,5 @@
 /*
- * Calls one of the five calls a given number of times on one of the bench's inputs: bench WHO LINE TIMES. WHO is `ours` (the
+ * Calls one of the six calls a given number of times on one of the bench's inputs: bench WHO LINE TIMES. WHO is `ours` (the
  * archive), `careful` (tests/reference/careful.c) or `nothing` (functions that return at once, so that what the loop itself needs can
  * be taken off). bench/run counts the instructions from outside.
  */
@@ -11,6 +11,7 @@
 #include <string.h>
 
 typedef uint64_t reads(const uint8_t *, size_t, const uint8_t *, size_t, uint8_t *, size_t);
+typedef uint64_t sizes(const uint8_t *, size_t, const uint8_t *, size_t);
 typedef uint64_t writes(const uint8_t *, size_t, const uint8_t *, size_t, uint8_t *, size_t);
 typedef uint64_t lists(const uint8_t *, size_t, uint8_t *, size_t);
 typedef uint64_t reads_listing(const uint8_t *, size_t, uint8_t *, size_t);
@@ -19,6 +20,7 @@ typedef uint64_t names_grant(const uint8_t *, size_t, const uint8_t *, size_t, u
 struct calls {
     const char *who;
     reads *read;
+    sizes *size;
     writes *write;
     lists *list;
     reads_listing *read_listing;
@@ -26,9 +28,9 @@ struct calls {
 };
 
 static const struct calls all_calls[] = {
-    { "ours", irangelda_read, irangelda_write, irangelda_list, irangelda_read_listing, irangelda_which_grant },
-    { "careful", careful_read, careful_write, careful_list, careful_read_listing, careful_which_grant },
-    { "nothing", nothing_of_six, nothing_of_six, nothing_of_four, nothing_of_four, nothing_of_five }
+    { "ours", irangelda_read, irangelda_size, irangelda_write, irangelda_list, irangelda_read_listing, irangelda_which_grant },
+    { "careful", careful_read, careful_size, careful_write, careful_list, careful_read_listing, careful_which_grant },
+    { "nothing", nothing_of_six, nothing_of_four_const, nothing_of_six, nothing_of_four, nothing_of_four, nothing_of_five }
 };
 
 enum { CELLS = IRANGELDA_CELLS, TARGET_CELL = 1, LONG_WORDS = 16384, GRANT_BYTES = IRANGELDA_GRANT_BYTES };
@@ -243,7 +245,7 @@ static void add_long_video(void)
 
 /* ---- the lines of the table */
 
-enum kind { READ, WRITE, LIST, READ_LISTING, WHICH_GRANT };
+enum kind { READ, SIZE, WRITE, LIST, READ_LISTING, WHICH_GRANT };
 
 struct line {
     const char *name;
@@ -418,6 +420,10 @@ static const struct line lines[] = {
     { "read-long-video-1", READ, long_video_with_1, 0 },
     { "read-long-video-64-above", READ, long_video_with_64_above, 0 },
     { "read-long-video-64-below", READ, long_video_with_64_below, 0 },
+    { "size-full-3", SIZE, full_with_3, 184 },
+    { "size-full-64-above", SIZE, full_with_64_above, 184 },
+    { "size-full-64-below", SIZE, full_with_64_below, 184 },
+    { "size-one", SIZE, one_cell, 3 },
     { "write-full-3", WRITE, full_with_3, 184 },
     { "write-full-64-above", WRITE, full_with_64_above, 184 },
     { "write-full-64-below", WRITE, full_with_64_below, 184 },
@@ -437,6 +443,8 @@ static uint64_t call(const struct calls *calls, enum kind kind)
     switch (kind) {
     case READ:
         return calls->read(batch, 4 * batch_words, grants, GRANT_BYTES * grant_count, state, sizeof state);
+    case SIZE:
+        return calls->size(state, sizeof state, grants, GRANT_BYTES * grant_count);
     case WRITE:
         return calls->write(state, sizeof state, grants, GRANT_BYTES * grant_count, out, IRANGELDA_WRITE_BYTES_ENOUGH);
     case LIST:

@@ -149,6 +149,9 @@ uint64_t irangelda_read(const uint8_t *batch, size_t batch_len,
                         const uint8_t *grants, size_t grants_len,
                         uint8_t *state, size_t state_len);
 
+uint64_t irangelda_size(const uint8_t *state, size_t state_len,
+                        const uint8_t *grants, size_t grants_len);
+
 /*
  * Writes a state as a batch that takes the empty state to it and that irangelda_read accepts under the same grants. Reason 0: the
  * words stand in out, in its first place * 4 bytes. Any other reason: out is as it was.

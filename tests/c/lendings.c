@@ -39,6 +39,13 @@ static const struct trial trials[] = {
       IRANGELDA_BAD_GRANTS, 0 },
     { "a bad last mark", { READ, { { full_batch, sizeof full_batch }, { grants, sizeof grants }, { bad_state, STATE_BYTES } } },
       IRANGELDA_BAD_STATE, 0 },
+    { "K1", { SIZE, { { k1_state, STATE_BYTES }, { k1_grant, GRANT_BYTES }, { NULL, 0 } } }, IRANGELDA_OK, 3 },
+    { "a full state", { SIZE, { { full_state, STATE_BYTES }, { grants, sizeof grants }, { NULL, 0 } } }, IRANGELDA_OK, FULL_WORDS },
+    { "a bad last cell", { SIZE, { { bad_cell, STATE_BYTES }, { grants, sizeof grants }, { NULL, 0 } } },
+      IRANGELDA_NOT_WRITABLE, CELLS - 1 },
+    { "a bad last grant", { SIZE, { { full_state, STATE_BYTES }, { bad_grants, sizeof grants }, { NULL, 0 } } },
+      IRANGELDA_BAD_GRANTS, 0 },
+    { "a bad last mark", { SIZE, { { bad_state, STATE_BYTES }, { grants, sizeof grants }, { NULL, 0 } } }, IRANGELDA_BAD_STATE, 0 },
     { "K1", { WRITE, { { k1_state, STATE_BYTES }, { k1_grant, GRANT_BYTES }, { out, 16 } } }, IRANGELDA_OK, 3 },
     { "a full state", { WRITE, { { full_state, STATE_BYTES }, { grants, sizeof grants }, { out, ROOM } } }, IRANGELDA_OK, FULL_WORDS },
     { "a word too little", { WRITE, { { full_state, STATE_BYTES }, { grants, sizeof grants }, { out, 4 * FULL_WORDS - 4 } } },
@@ -180,6 +187,10 @@ static const struct {
     { "no batch, no state", READ, k1_state, FIRST | CHANGED, IRANGELDA_BAD_STATE, 0 },
     { "no grants, no state", READ, k1_state, GRANTS | CHANGED, IRANGELDA_BAD_STATE, 0 },
     { "nothing", READ, k1_state, FIRST | GRANTS | CHANGED, IRANGELDA_BAD_STATE, 0 },
+    { "no state", SIZE, k1_state, FIRST, IRANGELDA_BAD_STATE, 0 },
+    { "no grants", SIZE, k1_state, GRANTS, IRANGELDA_NOT_WRITABLE, 1 },
+    { "nothing", SIZE, k1_state, FIRST | GRANTS, IRANGELDA_BAD_STATE, 0 },
+    { "empty, no grants", SIZE, empty, GRANTS, IRANGELDA_OK, 0 },
     { "no state", WRITE, k1_state, FIRST, IRANGELDA_BAD_STATE, 0 },
     { "no grants", WRITE, k1_state, GRANTS, IRANGELDA_NOT_WRITABLE, 1 },
     { "no room", WRITE, k1_state, CHANGED, IRANGELDA_NO_ROOM, 0 },
@@ -208,6 +219,8 @@ static struct request from_k1(enum kind kind, const uint8_t *state)
     switch (kind) {
     case READ:
         return (struct request){ READ, { { k1_batch, 12 }, { k1_grant, GRANT_BYTES }, { state, STATE_BYTES } } };
+    case SIZE:
+        return (struct request){ SIZE, { { state, STATE_BYTES }, { k1_grant, GRANT_BYTES }, { NULL, 0 } } };
     case WRITE:
         return (struct request){ WRITE, { { state, STATE_BYTES }, { k1_grant, GRANT_BYTES }, { out, 12 } } };
     case LIST:

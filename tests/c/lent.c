@@ -15,12 +15,14 @@
 enum { PAGE = 4096, GUARD = 64, GUARD_BYTE = 0x5c, PAINT = 0xa5, STACK_BYTES = 4 * PAGE, SIGNAL_BYTES = 16 * PAGE, RETURN_ADDRESS = 8 };
 
 const struct party parties[PARTIES] = {
-    [ARCHIVE] = { "archive", irangelda_read, irangelda_write, irangelda_list, irangelda_read_listing, irangelda_which_grant },
-    [CAREFUL] = { "careful", careful_read, careful_write, careful_list, careful_read_listing, careful_which_grant }
+    [ARCHIVE] = { "archive", irangelda_read, irangelda_size, irangelda_write, irangelda_list, irangelda_read_listing,
+                  irangelda_which_grant },
+    [CAREFUL] = { "careful", careful_read, careful_size, careful_write, careful_list, careful_read_listing, careful_which_grant }
 };
 
 const char *const kind_names[KINDS] = {
-    [READ] = "read", [WRITE] = "write", [LIST] = "list", [READ_LISTING] = "read listing", [WHICH_GRANT] = "which grant"
+    [READ] = "read", [SIZE] = "size", [WRITE] = "write", [LIST] = "list", [READ_LISTING] = "read listing",
+    [WHICH_GRANT] = "which grant"
 };
 
 int has_buffer(enum kind kind, size_t buffer)
@@ -29,9 +31,9 @@ int has_buffer(enum kind kind, size_t buffer)
     case 0:
         return 1;
     case 1:
-        return kind == READ || kind == WRITE || kind == WHICH_GRANT;
+        return kind == READ || kind == SIZE || kind == WRITE || kind == WHICH_GRANT;
     default:
-        return kind != WHICH_GRANT;
+        return kind != SIZE && kind != WHICH_GRANT;
     }
 }
 
@@ -108,7 +110,8 @@ static int same(const struct place *place, struct bytes bytes, size_t from)
 
 /* ---- stacks */
 
-static const struct party nobody = { "nobody", nothing_of_six, nothing_of_six, nothing_of_four, nothing_of_four, nothing_of_five };
+static const struct party nobody = { "nobody", nothing_of_six, nothing_of_four_const, nothing_of_six, nothing_of_four, nothing_of_four,
+                                     nothing_of_five };
 
 /* A stack for each party and kind of call, and one for nobody. Painted once: what is left of the paint tells the deepest use. */
 static uint8_t *stacks[PARTIES + 1][KINDS];
@@ -150,6 +153,9 @@ static void call(void)
     switch (under_way.kind) {
     case READ:
         under_way.answer = party->read(p[0].at, p[0].told, p[1].at, p[1].told, p[2].at, p[2].told);
+        break;
+    case SIZE:
+        under_way.answer = party->size(p[0].at, p[0].told, p[1].at, p[1].told);
         break;
     case WRITE:
         under_way.answer = party->write(p[0].at, p[0].told, p[1].at, p[1].told, p[2].at, p[2].told);
@@ -258,6 +264,20 @@ void perform(const struct party *party, const struct request *request, struct ou
     for (size_t i = 0; i < BUFFERS; i++)
         manners[i] = manner_of(request->lent[i], turn >> i);
     perform_so(party, request, manners, outcome);
+}
+
+struct request size_for(const struct request *write)
+{
+    return (struct request){ SIZE, { write->lent[0], write->lent[1], { NULL, 0 } } };
+}
+
+int lead_to(const struct party *party, struct bytes words, struct bytes grants, const uint8_t *state)
+{
+    static const uint8_t empty[IRANGELDA_STATE_BYTES];
+    static struct outcome left;
+    struct request request = { READ, { words, grants, { empty, sizeof empty } } };
+    perform(party, &request, &left);
+    return left.answer == words.length / 4 * 256 && memcmp(left.after, state, sizeof empty) == 0;
 }
 
 void prepare_lending(void)

@@ -9,7 +9,7 @@
 #include <stddef.h>
 #include <stdint.h>
 
-enum kind { READ, WRITE, LIST, READ_LISTING, WHICH_GRANT, KINDS };
+enum kind { READ, SIZE, WRITE, LIST, READ_LISTING, WHICH_GRANT, KINDS };
 
 /* The longest buffer of any test is a little longer than the calls take. */
 enum { BUFFERS = 3, MOST_LENT = 65536 + 64 };
@@ -20,7 +20,8 @@ struct bytes {
 };
 
 /* Read: batch, grants, state. Write: state, grants, out. List: state, nothing, out. Read a listing: listing, nothing, state. The last is
-   the one that the call may change. Which grant: state, grants, and no third: in place of its length stands the cell's number. */
+   the one that the call may change. Size: state, grants, and no third. Which grant: the same, and in place of the third's length stands
+   the cell's number. */
 struct request {
     enum kind kind;
     struct bytes lent[BUFFERS];
@@ -36,6 +37,7 @@ struct outcome {
 struct party {
     const char *name;
     uint64_t (*read)(const uint8_t *, size_t, const uint8_t *, size_t, uint8_t *, size_t);
+    uint64_t (*size)(const uint8_t *, size_t, const uint8_t *, size_t);
     uint64_t (*write)(const uint8_t *, size_t, const uint8_t *, size_t, uint8_t *, size_t);
     uint64_t (*list)(const uint8_t *, size_t, uint8_t *, size_t);
     uint64_t (*read_listing)(const uint8_t *, size_t, uint8_t *, size_t);
@@ -46,7 +48,7 @@ enum { ARCHIVE, CAREFUL, PARTIES };
 extern const struct party parties[PARTIES];
 extern const char *const kind_names[KINDS];
 
-/* Not every kind of call takes grants, and the query has no third buffer. */
+/* Not every kind of call takes grants, and the size and the query have no third buffer. */
 int has_buffer(enum kind kind, size_t buffer);
 
 /* A buffer of words has a length that is a multiple of 4; one of text has any. */
@@ -57,6 +59,12 @@ void prepare_lending(void);
 /* In turn among guards, at each distance, and at the fence; an empty buffer in turn as some place and as a null pointer. Eight calls of
    one party go through all ways to lend three buffers. */
 void perform(const struct party *party, const struct request *request, struct outcome *outcome);
+
+/* The size, asked of what a writer is lent: its state and its grants. */
+struct request size_for(const struct request *write);
+
+/* Whether these words, read under these grants, lead from the empty state to this one. */
+int lead_to(const struct party *party, struct bytes words, struct bytes grants, const uint8_t *state);
 
 /* Where a buffer lies, and what the call is told of its length. */
 enum where {

@@ -41,6 +41,8 @@ static struct request fine(enum kind kind)
     switch (kind) {
     case READ:
         return (struct request){ READ, { { batch, 8 }, { grants, GRANT_BYTES }, { state, STATE_BYTES } } };
+    case SIZE:
+        return (struct request){ SIZE, { { state, STATE_BYTES }, { grants, GRANT_BYTES }, { NULL, 0 } } };
     case WRITE:
         return (struct request){ WRITE, { { state, STATE_BYTES }, { grants, GRANT_BYTES }, { out, 8 } } };
     case LIST:
@@ -56,6 +58,7 @@ static uint32_t fine_place(enum kind kind)
 {
     switch (kind) {
     case READ:
+    case SIZE:
     case WRITE:
         return 2;
     case LIST:
@@ -210,14 +213,26 @@ static void reader_order(const struct party *party)
     answers(party, "3", &batch_wrong, 0, 3);
 }
 
-static void writer_order(const struct party *party)
+/* What the size and the writer ask of a state and its grants; the writer, before it asks for room. */
+static void order_up_to_12(const struct party *party, struct request request)
 {
-    struct request no_room = as_long_as(fine(WRITE), LAST, 0), cell_wrong = with(no_room, 0, bad_cell);
-    struct request grants_wrong = with(cell_wrong, 1, bad_grant), all_wrong = with(grants_wrong, 0, bad_state);
+    struct request cell_wrong = with(request, 0, bad_cell), grants_wrong = with(cell_wrong, 1, bad_grant);
+    struct request all_wrong = with(grants_wrong, 0, bad_state);
     thirteen_first(party, all_wrong);
     answers(party, "1 before 2", &all_wrong, 0, 1);
     answers(party, "2 before 12", &grants_wrong, 0, 2);
-    answers(party, "12 before 11", &cell_wrong, 84, 12);
+    answers(party, "12", &cell_wrong, 84, 12);
+}
+
+static void size_order(const struct party *party)
+{
+    order_up_to_12(party, fine(SIZE));
+}
+
+static void writer_order(const struct party *party)
+{
+    struct request no_room = as_long_as(fine(WRITE), LAST, 0);
+    order_up_to_12(party, no_room);
     answers(party, "11", &no_room, 0, 11);
 }
 
@@ -298,6 +313,7 @@ void limits(void)
         lister_room(party);
         listing_lengths(party);
         reader_order(party);
+        size_order(party);
         writer_order(party);
         lister_order(party);
         listing_reader_order(party);

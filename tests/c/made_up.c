@@ -6,13 +6,14 @@
 #include <stdio.h>
 #include <string.h>
 
-enum { READS = 70000, WRITES = 50000, LISTS = 30000, READ_LISTINGS = 50000, QUERIES = 50000, REASONS = 20, MANY = 100 };
+enum { READS = 70000, SIZES = 50000, WRITES = 50000, LISTS = 30000, READ_LISTINGS = 50000, QUERIES = 50000, REASONS = 20, MANY = 100 };
 
 static unsigned long given[KINDS][REASONS];
 
 /* Which reasons a call can give, as bits. */
 static const unsigned can_give[KINDS] = {
     1u << 0 | 1u << 1 | 1u << 2 | 1u << 3 | 1u << 4 | 1u << 5 | 1u << 6 | 1u << 7 | 1u << 8 | 1u << 9 | 1u << 10 | 1u << 13 | 1u << 14,
+    1u << 0 | 1u << 1 | 1u << 2 | 1u << 12 | 1u << 13,
     1u << 0 | 1u << 1 | 1u << 2 | 1u << 11 | 1u << 12 | 1u << 13,
     1u << 0 | 1u << 1 | 1u << 11 | 1u << 13,
     1u << 0 | 1u << 1 | 1u << 13 | 1u << 19,
@@ -24,7 +25,7 @@ static struct batch batch;
 static uint32_t state[2 * CELLS];
 
 /* The bytes that are handed over. */
-static uint8_t batch_bytes[MOST_LENT], grant_bytes[4 * MOST_GRANT_WORDS], state_bytes[STATE_BYTES + 64], out_bytes[MOST_LENT];
+static uint8_t batch_bytes[MOST_LENT], grant_bytes[MOST_GRANT_BYTES], state_bytes[MOST_STATE_BYTES], out_bytes[MOST_LENT];
 static uint8_t text_bytes[MOST_LENT];
 
 static struct outcome ours, theirs;
@@ -53,34 +54,14 @@ static void both_agree(const struct request *request)
     agrees(&parties[CAREFUL], request);
 }
 
-/* Now and then a few bytes more or fewer. */
-static size_t some_length(size_t length, size_t most)
-{
-    size_t off = 1 + below(4);
-    if (!once_in(60))
-        return length;
-    if (once_in(3))
-        return length < off ? 0 : length - off;
-    return length + off <= most ? length + off : most;
-}
-
 static struct bytes grants_lent(void)
 {
-    make_grants(&grants);
-    if (once_in(20))
-        break_grants(&grants);
-    put_words(grant_bytes, grants.word, grants.words);
-    return (struct bytes){ grant_bytes, some_length(4 * grants.words, sizeof grant_bytes) };
+    return (struct bytes){ grant_bytes, make_grant_bytes(grant_bytes, &grants) };
 }
 
 static struct bytes state_lent(uint32_t damaged_once_in)
 {
-    static const uint32_t every[4] = { 1, 2, 4, 30 };
-    make_state(state, &grants, every[below(4)]);
-    if (once_in(damaged_once_in))
-        damage_state(state);
-    put_words(state_bytes, state, 2 * CELLS);
-    return (struct bytes){ state_bytes, some_length(STATE_BYTES, sizeof state_bytes) };
+    return (struct bytes){ state_bytes, make_state_bytes(state_bytes, state, &grants, damaged_once_in) };
 }
 
 /* Mostly short, some long enough to be read in pieces, a few as long as they may be. */
@@ -153,6 +134,13 @@ static void made_up_read(void)
         sort_pair();
 }
 
+static void made_up_size(void)
+{
+    struct request request = { SIZE, { { state_bytes, 0 }, grants_lent(), { NULL, 0 } } };
+    request.lent[0] = state_lent(3);
+    both_agree(&request);
+}
+
 /* The room that careful.c says is needed, where it says so. */
 static size_t room_needed(const struct request *request)
 {
@@ -191,13 +179,8 @@ static void fill_room(size_t length)
 /* What the archive wrote leads its reader from the empty state back. */
 static void reads_back(const struct request *written)
 {
-    static const uint8_t empty[STATE_BYTES];
-    static uint8_t words[IRANGELDA_WRITE_BYTES_ENOUGH];
-    size_t length = 4 * (size_t)(ours.answer / 256);
-    memcpy(words, ours.after, length);
-    struct request request = { READ, { { words, length }, written->lent[1], { empty, STATE_BYTES } } };
-    perform(&parties[ARCHIVE], &request, &ours);
-    expect(ours.answer == length / 4 * 256 && memcmp(ours.after, state_bytes, STATE_BYTES) == 0, "made-up write: does not lead back");
+    struct bytes words = { ours.after, 4 * (size_t)(ours.answer / 256) };
+    expect(lead_to(&parties[ARCHIVE], words, written->lent[1], state_bytes), "made-up write: does not lead back");
 }
 
 static void made_up_write(void)
@@ -295,6 +278,8 @@ void made_up(void)
     for (int i = 0; i < READS; i++)
         made_up_read();
     look_at_pairs();
+    for (int i = 0; i < SIZES; i++)
+        made_up_size();
     for (int i = 0; i < WRITES; i++)
         made_up_write();
     for (int i = 0; i < LISTS; i++)

@@ -8,7 +8,7 @@
 enum { MOST_STACK = 4096 };
 
 static const size_t most_of_ours[KINDS] = {
-    [READ] = 2000, [WRITE] = 2000, [LIST] = 1200, [READ_LISTING] = 1600, [WHICH_GRANT] = 1200
+    [READ] = 2000, [SIZE] = 2000, [WRITE] = 2000, [LIST] = 1200, [READ_LISTING] = 1600, [WHICH_GRANT] = 1200
 };
 
 static void stacks(void)
@@ -36,6 +36,7 @@ int main(void)
     part("registers", registers);
     part("pairs", pairs);
     part("writings", writings);
+    part("sizes", sizes);
     part("relistings", relistings);
     part("borders", borders);
     part("limits", limits);

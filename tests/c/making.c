@@ -366,6 +366,39 @@ void damage_state(uint32_t *state)
     }
 }
 
+/* ---- bytes of grants and states */
+
+size_t some_length(size_t length, size_t most)
+{
+    size_t off = 1 + below(4);
+    if (!once_in(60))
+        return length;
+    if (once_in(3))
+        return length < off ? 0 : length - off;
+    return length + off <= most ? length + off : most;
+}
+
+size_t make_grant_bytes(uint8_t bytes[MOST_GRANT_BYTES], struct grants *grants)
+{
+    make_grants(grants);
+    if (once_in(20))
+        break_grants(grants);
+    put_words(bytes, grants->word, grants->words);
+    return some_length(4 * grants->words, MOST_GRANT_BYTES);
+}
+
+size_t make_state_bytes(uint8_t bytes[MOST_STATE_BYTES], uint32_t *state, const struct grants *grants, uint32_t damaged_once_in)
+{
+    static const uint32_t every[4] = { 1, 2, 4, 30 };
+    make_state(state, grants, every[below(4)]);
+    if (once_in(damaged_once_in))
+        damage_state(state);
+    put_words(bytes, state, 2 * CELLS);
+    return some_length(STATE_BYTES, MOST_STATE_BYTES);
+}
+
+/* ---- cells */
+
 uint32_t make_cell(void)
 {
     uint32_t any = chance(), shift = below(32);

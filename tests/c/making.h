@@ -42,6 +42,16 @@ void mend_pair(struct batch *batch, const uint32_t *state, const struct grants *
 void make_state(uint32_t *state, const struct grants *grants, uint32_t every);
 void damage_state(uint32_t *state);
 
+/* Now and then a few bytes more or fewer, at most `most`. */
+size_t some_length(size_t length, size_t most);
+
+/* Both make it in the bytes that a call is lent, and answer how many of them it is lent: grants that are broken now and then, and a state
+   that is damaged once in so many; of either now and then a few bytes more or fewer. */
+enum { MOST_GRANT_BYTES = 4 * MOST_GRANT_WORDS, MOST_STATE_BYTES = STATE_BYTES + 64 };
+
+size_t make_grant_bytes(uint8_t bytes[MOST_GRANT_BYTES], struct grants *grants);
+size_t make_state_bytes(uint8_t bytes[MOST_STATE_BYTES], uint32_t *state, const struct grants *grants, uint32_t damaged_once_in);
+
 /* The number of a cell: mostly of one with an address, sometimes of any, and sometimes a number that no cell has. */
 uint32_t make_cell(void);
 

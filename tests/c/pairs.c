@@ -463,7 +463,7 @@ static void long_batches(void)
             read_long(lengths[i], (lengths[i] - 6) * quarter / 8 * 2);
 }
 
-/* ---- the writer: 12 at the lowest cell that cannot be written, and cell 1 cannot be where the pair is bad */
+/* ---- the size and the writer: 12 at the lowest cell that cannot be written, and cell 1 cannot be where the pair is bad */
 
 /* What cell 0 holds: nothing, a value that may be written, and one that may not. */
 static const uint32_t first_values[] = { 0, 0x400400, 0x401000 };
@@ -503,15 +503,17 @@ static void write_state(const struct list *list, const uint8_t *state, size_t fi
     size_t count = words_of(state, words);
     memset(out, 0xee, sizeof out);
     memset(expected, 0xee, sizeof expected);
-    struct request request = { WRITE, { { state, STATE_BYTES }, lend_grants(list), { out, sizeof out } } };
+    struct request request = { WRITE, { { state, STATE_BYTES }, lend_grants(list), { out, sizeof out } } }, size = size_for(&request);
     if (first == BAD_FIRST || !is_good_pair(list, state) || !is_good_memory(state)) {
         size_t cell = first == BAD_FIRST ? 0 : is_good_pair(list, state) ? MEMORY_CELL : ADDRESS_CELL;
+        all_answer(list->name, &size, answer_at(cell, IRANGELDA_NOT_WRITABLE));
         all_leave(list->name, &request, answer_at(cell, IRANGELDA_NOT_WRITABLE), expected, sizeof expected);
         request.lent[LAST].length = 0;
         all_answer("12 before 11", &request, answer_at(cell, IRANGELDA_NOT_WRITABLE));
         return;
     }
     put_words(expected, words, count);
+    all_answer(list->name, &size, answer_at(count, 0));
     all_leave(list->name, &request, answer_at(count, 0), expected, sizeof expected);
     leads_back(list, state, expected, count);
 }
@@ -542,7 +544,7 @@ static void every_query(void)
         }
 }
 
-/* ---- a pair under a list: all three calls */
+/* ---- a pair under a list: all four calls */
 
 static void ask_all(const struct list *list, uint32_t value, uint32_t memory)
 {
@@ -554,14 +556,16 @@ static void ask_all(const struct list *list, uint32_t value, uint32_t memory)
     set_cell(state, ADDRESS_CELL, value);
     set_cell(state, MEMORY_CELL, memory << MEMORY_AT);
     struct request read = { READ, { { batch, 16 }, grants, { empty, STATE_BYTES } } };
-    struct request write = { WRITE, { { state, STATE_BYTES }, grants, { out, 16 } } };
+    struct request write = { WRITE, { { state, STATE_BYTES }, grants, { out, 16 } } }, size = size_for(&write);
     struct request query = { WHICH_GRANT, { { state, STATE_BYTES }, grants, { NULL, ADDRESS_CELL } } };
     int somewhere = admitting(list, value, 0) != NO_GRANT || admitting(list, value, 1) != NO_GRANT;
     if (number != NO_GRANT) {
         all_leave(list->name, &read, answer_at(4, 0), state, STATE_BYTES);
+        all_answer(list->name, &size, answer_at(4, 0));
         all_leave(list->name, &write, answer_at(4, 0), batch, 16);
     } else {
         all_leave(list->name, &read, somewhere ? answer_at(4, 14) : answer_at(2, 9), empty, STATE_BYTES);
+        all_answer(list->name, &size, answer_at(ADDRESS_CELL, 12));
         all_leave(list->name, &write, answer_at(ADDRESS_CELL, 12), out, 16);
     }
     all_answer(list->name, &query, answer_at(number, 0));
@@ -643,7 +647,7 @@ static void half_in_each(void)
 
 /* ---- the rules of the list: memory is 0 or 1, and 0 for a scaler */
 
-static const enum kind kinds_with_grants[] = { READ, WRITE, WHICH_GRANT };
+static const enum kind kinds_with_grants[] = { READ, SIZE, WRITE, WHICH_GRANT };
 
 /* From the empty state every call answers 0, and the query 64, if the list is right. */
 static void with_list(const char *what, struct bytes grants, int is_right)

@@ -13,15 +13,27 @@ static const uint32_t all_memory[GRANT_WORDS * GRANTS] = {
     1, 0, 0xffffffff, 1, 0, 2, 0, 0xffffffff, 1, 0, 3, 0, 0xffffffff, 1, 0, 1, 0, 0xffffffff, 1, 1
 };
 
+static struct bytes all_granted(void)
+{
+    static uint8_t grants[GRANT_BYTES * GRANTS];
+    put_words(grants, all_memory, GRANT_WORDS * GRANTS);
+    return (struct bytes){ grants, sizeof grants };
+}
+
 static struct outcome outcome;
+
+static uint64_t size_state(const struct party *party, const uint8_t *state)
+{
+    struct request request = { SIZE, { { state, STATE_BYTES }, all_granted(), { NULL, 0 } } };
+    perform(party, &request, &outcome);
+    return outcome.answer;
+}
 
 static uint64_t write_state(const struct party *party, const uint8_t *state, size_t room)
 {
     static uint8_t out[ROOM];
-    uint8_t grants[GRANT_BYTES * GRANTS];
-    put_words(grants, all_memory, GRANT_WORDS * GRANTS);
     memset(out, 0xee, room);
-    struct request request = { WRITE, { { state, STATE_BYTES }, { grants, sizeof grants }, { out, room } } };
+    struct request request = { WRITE, { { state, STATE_BYTES }, all_granted(), { out, room } } };
     perform(party, &request, &outcome);
     return outcome.answer;
 }
@@ -35,45 +47,42 @@ static uint64_t list_state(const struct party *party, const uint8_t *state, size
     return outcome.answer;
 }
 
-/* In exactly the room that is needed, in one unit less, and in more. */
+static void gives(const struct party *party, const char *what, const char *name, uint64_t answer, uint64_t wanted)
+{
+    expect(answer == wanted, "%s %s %s: answer %llx, not %llx", party->name, what, name, (unsigned long long)answer,
+           (unsigned long long)wanted);
+}
+
+/* The size is the number of the words. In exactly that room they are written, and in more, but not in one unit less. */
 static void writes_exactly(const struct party *party, const char *name, const uint8_t *state, const uint32_t *words, size_t count)
 {
     uint8_t bytes[ROOM];
     put_words(bytes, words, count);
+    gives(party, "tells the size of", name, size_state(party, state), (uint64_t)count * 256);
     for (size_t more = 0; more <= 8; more += 4) {
-        expect(write_state(party, state, 4 * count + more) == (uint64_t)count * 256, "%s writes %s: answer %llx", party->name, name,
-               (unsigned long long)outcome.answer);
+        gives(party, "writes", name, write_state(party, state, 4 * count + more), (uint64_t)count * 256);
         expect(memcmp(outcome.after, bytes, 4 * count) == 0, "%s writes %s: other words", party->name, name);
     }
     if (count > 0)
-        expect(write_state(party, state, 4 * count - 4) == IRANGELDA_NO_ROOM, "%s writes %s into too little room: answer %llx",
-               party->name, name, (unsigned long long)outcome.answer);
+        gives(party, "writes, in too little room,", name, write_state(party, state, 4 * count - 4), IRANGELDA_NO_ROOM);
 }
 
 static void lists_exactly(const struct party *party, const char *name, const uint8_t *state, const char *text)
 {
     size_t length = strlen(text);
     for (size_t more = 0; more <= 3; more++) {
-        expect(list_state(party, state, length + more) == (uint64_t)length * 256, "%s lists %s: answer %llx", party->name, name,
-               (unsigned long long)outcome.answer);
+        gives(party, "lists", name, list_state(party, state, length + more), (uint64_t)length * 256);
         expect(memcmp(outcome.after, text, length) == 0, "%s lists %s: other text", party->name, name);
     }
-    expect(list_state(party, state, length - 1) == IRANGELDA_NO_ROOM, "%s lists %s into too little room: answer %llx", party->name,
-           name, (unsigned long long)outcome.answer);
+    gives(party, "lists, in too little room,", name, list_state(party, state, length - 1), IRANGELDA_NO_ROOM);
 }
 
 /* What was written leads from the empty state back to the state. */
 static void leads_back(const struct party *party, const char *name, const uint8_t *state)
 {
-    static const uint8_t empty[STATE_BYTES];
-    uint8_t batch[ROOM], grants[GRANT_BYTES * GRANTS];
     uint64_t words = write_state(party, state, IRANGELDA_WRITE_BYTES_ENOUGH) / 256;
-    memcpy(batch, outcome.after, 4 * words);
-    put_words(grants, all_memory, GRANT_WORDS * GRANTS);
-    struct request request = { READ, { { batch, 4 * words }, { grants, sizeof grants }, { empty, STATE_BYTES } } };
-    perform(party, &request, &outcome);
-    expect(outcome.answer == words * 256, "%s reads %s back: answer %llx", party->name, name, (unsigned long long)outcome.answer);
-    expect(memcmp(outcome.after, state, STATE_BYTES) == 0, "%s reads %s back: another state", party->name, name);
+    expect(lead_to(party, (struct bytes){ outcome.after, 4 * words }, all_granted(), state), "%s does not read %s back", party->name,
+           name);
 }
 
 /* ---- some states, word for word */
@@ -220,6 +229,7 @@ static void full_state(const struct party *party)
     for (size_t cell = 0; cell < CELLS; cell++)
         set_cell(state, cell, value_for(cell));
     made_state(party, "a full state", state);
+    gives(party, "tells the size of", "a full state", size_state(party, state), 184 * 256);
     expect(write_state(party, state, IRANGELDA_WRITE_BYTES_ENOUGH) == 184 * 256, "%s: a full state is not 184 words", party->name);
     expect(list_state(party, state, IRANGELDA_LIST_BYTES_ENOUGH) == 2568 * 256, "%s: a full state is not 2,568 bytes", party->name);
 }
@@ -240,17 +250,18 @@ static void one_in_one_out(const struct party *party)
 
 /* ---- states that cannot be written */
 
-/* 12 at the cell, though a higher cell is bad too; and 12 before 11. A lister does not ask what a value means. */
+/* 12 at the cell, though a higher cell is bad too: of the size, and of the writer before 11. A lister does not ask what a value means. */
 static void bad_cell(const struct party *party, size_t cell, uint32_t value)
 {
     uint8_t state[STATE_BYTES] = { 0 };
     set_cell(state, cell, value);
     set_cell(state, 91, 0x0000000f);
     uint64_t wanted = (uint64_t)cell * 256 + IRANGELDA_NOT_WRITABLE;
+    char name[64], text[ROOM];
+    sprintf(name, "%08x in cell %zu", (unsigned)value, cell);
+    gives(party, "tells the size of", name, size_state(party, state), wanted);
     for (size_t room = 0; room <= IRANGELDA_WRITE_BYTES_ENOUGH; room += IRANGELDA_WRITE_BYTES_ENOUGH)
-        expect(write_state(party, state, room) == wanted, "%s writes %08x in cell %zu: answer %llx", party->name, (unsigned)value, cell,
-               (unsigned long long)outcome.answer);
-    char text[ROOM];
+        gives(party, "writes", name, write_state(party, state, room), wanted);
     text_of(state, text);
     lists_exactly(party, "a state that cannot be written", state, text);
 }
@@ -291,6 +302,13 @@ static void bad_cells(const struct party *party)
     bad_cell(party, 89, 0x00000001);
 }
 
+static void refuses_ungranted(const struct party *party, const struct request *request, size_t cell)
+{
+    perform(party, request, &outcome);
+    expect(outcome.answer == (uint64_t)cell * 256 + IRANGELDA_NOT_WRITABLE, "%s %s, cell %zu ungranted: answer %llx", party->name,
+           kind_names[request->kind], cell, (unsigned long long)outcome.answer);
+}
+
 /* The address of each such cell, without a grant; the target's is granted in the other memory. */
 static void ungranted_cells(const struct party *party)
 {
@@ -302,10 +320,10 @@ static void ungranted_cells(const struct party *party)
         put_words(grants, all_memory, GRANT_WORDS * GRANTS);
         put_word(grants, GRANT_WORDS * (role - 1) + 2, 0x1000);
         set_cell(state, cell, value_with_address(cell, 0x1000));
-        struct request request = { WRITE, { { state, STATE_BYTES }, { grants, sizeof grants }, { out, sizeof out } } };
-        perform(party, &request, &outcome);
-        expect(outcome.answer == (uint64_t)cell * 256 + IRANGELDA_NOT_WRITABLE, "%s writes cell %zu ungranted: answer %llx",
-               party->name, cell, (unsigned long long)outcome.answer);
+        struct request write = { WRITE, { { state, STATE_BYTES }, { grants, sizeof grants }, { out, sizeof out } } };
+        struct request size = size_for(&write);
+        refuses_ungranted(party, &size, cell);
+        refuses_ungranted(party, &write, cell);
     }
 }
 

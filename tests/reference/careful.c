@@ -1,11 +1,11 @@
 /*
- * The five calls as a careful C programmer writes them, from docs/RULES.md alone: its rules in its order and words, each reason
+ * The six calls as a careful C programmer writes them, from docs/RULES.md alone: its rules in its order and words, each reason
  * returned where it is found. The shape is one that is quick, and the rest is left to the compiler.
  *
  * The reader goes through the batch once, works on a copy of the state and hands the copy back only when the whole batch was fine.
- * The writer and the lister have checked everything, the room too, before they put down the first byte. The listing reader goes through
- * the text once and fills a state of its own, which it hands over only at the end. So a refusal changes nothing. The query goes
- * through the grants once, and changes nothing at all.
+ * The size asks everything of a state that the writer does, but for the room. The writer and the lister have checked everything, the
+ * room too, before they put down the first byte. The listing reader goes through the text once and fills a state of its own, which it
+ * hands over only at the end. So a refusal changes nothing. The query goes through the grants once, and changes nothing at all.
  */
 #include "careful.h"
 #include <string.h>
@@ -622,13 +622,10 @@ static inline size_t put_state(uint8_t *out, const uint8_t *state)
     return words;
 }
 
-uint64_t careful_write(const uint8_t *state, size_t state_len,
-                       const uint8_t *grants, size_t grants_len,
-                       uint8_t *out, size_t out_len)
+/* All that is asked of a state and its grants: a refusal, or OK at the number of words that the state takes. */
+static inline uint64_t size_in_words(const uint8_t *state, size_t state_len, const uint8_t *grants, size_t grants_len)
 {
     struct grants kept;
-    if (!is_word_buffer(state_len) || !is_word_buffer(grants_len) || !is_word_buffer(out_len))
-        return answer(0, BAD_BUFFER);
     if (!is_state(state, state_len))
         return answer(0, BAD_STATE);
     if (!keep_grants(&kept, grants, grants_len / 4))
@@ -636,7 +633,27 @@ uint64_t careful_write(const uint8_t *state, size_t state_len,
     size_t bad = lowest_bad_cell(state, &kept);
     if (bad != CELLS)
         return answer(bad, NOT_WRITABLE);
-    if (out_len / 4 < words_needed(state))
+    return answer(words_needed(state), OK);
+}
+
+uint64_t careful_size(const uint8_t *state, size_t state_len,
+                      const uint8_t *grants, size_t grants_len)
+{
+    if (!is_word_buffer(state_len) || !is_word_buffer(grants_len))
+        return answer(0, BAD_BUFFER);
+    return size_in_words(state, state_len, grants, grants_len);
+}
+
+uint64_t careful_write(const uint8_t *state, size_t state_len,
+                       const uint8_t *grants, size_t grants_len,
+                       uint8_t *out, size_t out_len)
+{
+    if (!is_word_buffer(state_len) || !is_word_buffer(grants_len) || !is_word_buffer(out_len))
+        return answer(0, BAD_BUFFER);
+    uint64_t size = size_in_words(state, state_len, grants, grants_len);
+    if (size % 256 != OK)
+        return size;
+    if (out_len / 4 < size / 256)
         return answer(0, NO_ROOM);
     return answer(put_state(out, state), OK);
 }

@@ -2,6 +2,7 @@
 -- What a contract asks is taken as its callers read it: NAME.Asked, of lifetimes and arguments.
 -- Assumes nothing.
 use Rattle.irangelda.proofs.irangelda_read.Reads as irangelda-read
+use Rattle.irangelda.proofs.irangelda_size.Reads as irangelda-size
 use Rattle.irangelda.proofs.irangelda_write.Reads as irangelda-write
 use Rattle.irangelda.proofs.irangelda_list.Reads as irangelda-list
 use Rattle.irangelda.proofs.irangelda_read_listing.Reads as irangelda-read-listing
@@ -17,6 +18,9 @@ nothing-asked = tt
 
 pub irangelda-read-asks : AsksNothing irangelda-read.Asked
 irangelda-read-asks κs a = nothing-asked
+
+pub irangelda-size-asks : AsksNothing irangelda-size.Asked
+irangelda-size-asks κs a = nothing-asked
 
 pub irangelda-write-asks : AsksNothing irangelda-write.Asked
 irangelda-write-asks κs a = nothing-asked

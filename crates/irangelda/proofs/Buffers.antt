@@ -14,7 +14,6 @@ use Rattle.laws.proofs.Bits.{or-four}
 use Rattle.laws.proofs.Tests.{holds-of}
 use Rattle.meaning.specs.declared.Kind.{Kind}
 use Rattle.meaning.specs.declared.Kind.the-variants.{Setting}
-use Rattle.meaning.specs.declared.Cell.{Cell}
 use Rattle.meaning.specs.declared.Answer.{Answer}
 use Rattle.meaning.specs.Words.{wordsOf, bytesOf}
 use Rattle.meaning.specs.Grants.{Terms, termsOf, grantsFine}
@@ -24,10 +23,9 @@ use Rattle.meaning.specs.Answers.{badState, badGrants, badBuffer, success, numb
 use Rattle.meaning.specs.Pair.{pairKept}
 use Rattle.meaning.specs.Reader.{judge, follow, run, batchAnswer, readAnswer, readLeaves, unless, pairedAnswer}
 use Rattle.meaning.specs.Writer.{written, writeAnswer}
-use Rattle.meaning.specs.Query.{queryAnswer}
 use Rattle.meaning.specs.Lister.{listAnswer, listLeaves}
 use Rattle.meaning.specs.ListingReader.{listingAnswer, listingLeaves}
-use Rattle.meaning.specs.Exported.{mostBytes, bufferFine, wordBufferFine, exportedRead, exportedReadLeaves, exportedWrite, exportedWriteLeaves, exportedList, exportedListLeaves, exportedReadListing, exportedReadListingLeaves, exportedWhichGrant}
+use Rattle.meaning.specs.Exported.{mostBytes, bufferFine, wordBufferFine, exportedRead, exportedReadLeaves, exportedWrite, exportedWriteLeaves, exportedList, exportedListLeaves, exportedReadListing, exportedReadListingLeaves}
 use Rattle.meaning.proofs.Bytes.{length-words, length-bytes}
 use Rattle.meaning.proofs.States.{length-applied}
 use Rattle.listings.proofs.Answers.{leaves-length, place-within}
@@ -185,14 +183,14 @@ module _ (text st : List ℕ) where
     pub listing-small : listingAnswer text (wordsOf st) .place ≤ mostBytes
     listing-small = omega (arith, place-within text (wordsOf st), listing-told .1)
 
--- ---- which grant
+-- ---- size and which grant: state and grants, and no buffer to change
 
-module _ (st gs : List ℕ) (c : Cell) where
-  pub which-13 : wordBufferFine st && wordBufferFine gs ≡ false → badBuffer ≡ numberOf (exportedWhichGrant st gs c)
-  unfolding exportedWhichGrant
-  which-13 e = rw e
+module _ (st gs : List ℕ) (a : Answer) where
+  abbrev let-through : Answer
+  let-through = provided (wordBufferFine st && wordBufferFine gs) badBuffer a
 
-  pub which-answered : wordBufferFine st && wordBufferFine gs ≡ true → {r : Answer} → r ≡ queryAnswer (wordsOf st) (wordsOf gs) c
-      → {n : ℕ} → n ≡ numberOf r → n ≡ numberOf (exportedWhichGrant st gs c)
-  unfolding exportedWhichGrant
-  which-answered e a n = rw (e, ← a) n
+  pub two-13 : wordBufferFine st && wordBufferFine gs ≡ false → badBuffer ≡ numberOf let-through
+  two-13 e = rw e
+
+  pub two-answered : wordBufferFine st && wordBufferFine gs ≡ true → {r : Answer} → r ≡ a → {n : ℕ} → n ≡ numberOf r → n ≡ numberOf let-through
+  two-answered e is n = rw (e, ← is) n

@@ -55,8 +55,8 @@ fn text_buffers_fine(state: &[u8], text: &[u8]) -> bool
     buffer_fine(text)
 }
 
-// And of the two that the query is lent.
-fn query_buffers_fine(state: &[u8], grants: &[u8]) -> bool
+// And of the two that size and query are lent.
+fn two_buffers_fine(state: &[u8], grants: &[u8]) -> bool
     ensures fine { λ r. ⌜ r ≡ exported.wordBufferFine (now (state .entry)) && exported.wordBufferFine (now (grants .entry)) ⌝ }
 {
     if !word_buffer_fine(state) {
@@ -84,6 +84,18 @@ pub extern "C" fn irangelda_read(batch: &[u8], grants: &[u8], state: &mut [u8]) 
         return BAD_BUFFER;
     }
     number(reader::read(batch, grants, state))
+}
+
+// Tells how many words the batch has that reaches a state from the empty state: 13, 1, 2 and 12, else 0 and the words that irangelda_write
+// needs.
+#[no_mangle]
+pub extern "C" fn irangelda_size(state: &[u8], grants: &[u8]) -> u64
+    ensures number { λ r. ⌜ r ≡ numberOf (exported.exportedSize (now (state .entry)) (now (grants .entry))) ⌝ }
+{
+    if !two_buffers_fine(state, grants) {
+        return BAD_BUFFER;
+    }
+    number(writer::size(state, grants))
 }
 
 // Writes the batch that reaches a state from the empty state: 13, 1, 2, 12 and 11 in the order of the rules, else 0 and the words written.
@@ -128,7 +140,7 @@ pub extern "C" fn irangelda_read_listing(listing: &[u8], state: &mut [u8]) -> u6
 pub extern "C" fn irangelda_which_grant(state: &[u8], grants: &[u8], cell: u32) -> u64
     ensures number { λ r. ⌜ r ≡ numberOf (exported.exportedWhichGrant (now (state .entry)) (now (grants .entry)) (registers.cell cell)) ⌝ }
 {
-    if !query_buffers_fine(state, grants) {
+    if !two_buffers_fine(state, grants) {
         return BAD_BUFFER;
     }
     number(query::which_grant(state, grants, Cell(cell as usize)))

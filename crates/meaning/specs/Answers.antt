@@ -52,7 +52,7 @@ endsInside = 10
 abbrev pub noRoom : ℕ
 noRoom = 11
 
--- Y12 "writer: a marked cell has a value that 7, 8 or 9 would refuse, or a 3D value not below 2^24", Y12 "or it is cell 1 and the pair is not
+-- Y12 "size and writer: a marked cell has a value that 7, 8 or 9 would refuse, or a 3D value not below 2^24", Y12 "or it is cell 1 and the pair is not
 -- fine"
 abbrev pub notWritable : ℕ
 notWritable = 12

@@ -12,7 +12,7 @@ use Rattle.meaning.specs.declared.Answer.{Answer}
 use Rattle.meaning.specs.Words.{wordsOf, bytesOf}
 use Rattle.meaning.specs.Answers.{badBuffer, provided, settle}
 use Rattle.meaning.specs.Reader.{readAnswer, readLeaves}
-use Rattle.meaning.specs.Writer.{written, writeAnswer}
+use Rattle.meaning.specs.Writer.{written, sizeAnswer, writeAnswer}
 use Rattle.meaning.specs.Query.{queryAnswer}
 use Rattle.meaning.specs.Lister.{listing, listAnswer}
 use Rattle.meaning.specs.ListingReader.{listingAnswer, listingLeaves}
@@ -39,6 +39,12 @@ exportedRead batch grants st =
 -- the bytes of the state after the call
 unfoldable pub exportedReadLeaves : List ℕ → List ℕ → List ℕ → List ℕ
 exportedReadLeaves batch grants st = settle (exportedRead batch grants st) (bytesOf (readLeaves (wordsOf batch) (wordsOf grants) (wordsOf st))) st
+
+-- ---- size
+
+-- C6 "Its state and its grants are words.": the answer, A2 "13 goes before 1"
+unfoldable pub exportedSize : List ℕ → List ℕ → Answer
+exportedSize st grants = provided (wordBufferFine st && wordBufferFine grants) badBuffer (sizeAnswer (wordsOf st) (wordsOf grants))
 
 -- ---- write
 

@@ -1,6 +1,6 @@
 -- Why a batch comes back: the table row by row, as what must be the case for a reason and a place.
 -- A5 "A reason is given exactly if its row fits and nothing fits that goes before it in this order." is each-reason-exactly in
--- proofs/Promises. No answer is computed here: of Writer and Lister only the exact words and bytes are cited.
+-- proofs/Promises. No answer is computed here: of Writer and Lister only the exact words, their number and the exact bytes are cited.
 -- Assumes nothing.
 use mathlib.Core.Path.{_≡_}
 use mathlib.Core.Logic.{_≢_, _⊎_}
@@ -22,7 +22,7 @@ use Rattle.meaning.specs.State.{stateWords, valueAt, markAt, wellFormed}
 use Rattle.meaning.specs.Pair.{targetCell, lookedAt, pairFine, pairKept}
 use Rattle.meaning.specs.Positions.{positionAt, goes, carries, writesOf}
 use Rattle.meaning.specs.Engine.{mostFed, Call, opening, feeding, closing, fedBy}
-use Rattle.meaning.specs.Writer.{written}
+use Rattle.meaning.specs.Writer.{sizeOf}
 use Rattle.meaning.specs.Fitter.{LowestOf, NoneOf}
 use Rattle.meaning.specs.Lister.{listing}
 use Rattle.meaning.specs.Listings.{Listed, LongestListing}
@@ -119,7 +119,7 @@ pub data EngineGives (st grants : List ℕ) : Call → ℕ → ℕ → Type 0 wh
       → NoneBefore (termsOf grants) ws (length ws) → positionAt ws (length ws) .left ≡ 0 → T (pairKept (termsOf grants) st (writesOf ws))
       → EngineGives st grants (closing ws) 0 (length ws)
 
--- ---- the writer, given room for so many words
+-- ---- the size; and the writer, given room for so many words
 
 -- not Y12 "a value that 7, 8 or 9 would refuse, or a 3D value not below 2^24"
 pub record MayHold (g : Terms) (c : Cell) (v : ℕ) : Type 0 where
@@ -135,7 +135,18 @@ pub record Writable (g : Terms) (st : List ℕ) (c : Cell) : Type 0 where
   pub value : CellFine g st c
   pub pair : c .0 ≡ targetCell .0 → T (pairFine g st)
 
--- Y1, Y2, Y12, Y11 and Y0 of the writer, for state and grants as they were handed in
+-- Y1, Y2, Y12 and Y0 of the size, for state and grants as they were handed in
+pub data SizeGives (st grants : List ℕ) : ℕ → ℕ → Type 0 where
+  bad-state : ¬ T (wellFormed st) → SizeGives st grants 1 0
+  bad-grants : T (wellFormed st) → ¬ T (grantsFine grants) → SizeGives st grants 2 0
+  -- Y12 "the lowest such cell"
+  not-writable : {c : ℕ} → T (wellFormed st) → T (grantsFine grants) → c < cells → ¬ Writable (termsOf grants) st (cell c)
+      → ((d : ℕ) → d < c → Writable (termsOf grants) st (cell d)) → SizeGives st grants 12 c
+  -- Y0 "size: the words needed"
+  done : T (wellFormed st) → T (grantsFine grants) → ((c : ℕ) → c < cells → Writable (termsOf grants) st (cell c))
+      → SizeGives st grants 0 (sizeOf st)
+
+-- Y1, Y2, Y12, Y11 and Y0 of the writer, in the same way
 pub data WriterGives (st grants : List ℕ) (room : ℕ) : ℕ → ℕ → Type 0 where
   bad-state : ¬ T (wellFormed st) → WriterGives st grants room 1 0
   bad-grants : T (wellFormed st) → ¬ T (grantsFine grants) → WriterGives st grants room 2 0
@@ -144,10 +155,10 @@ pub data WriterGives (st grants : List ℕ) (room : ℕ) : ℕ → ℕ → Type 
       → ((d : ℕ) → d < c → Writable (termsOf grants) st (cell d)) → WriterGives st grants room 12 c
   -- Y11 "the output is shorter than they need | 0"; A4 "The writer gives 12 before 11"
   no-room : T (wellFormed st) → T (grantsFine grants) → ((c : ℕ) → c < cells → Writable (termsOf grants) st (cell c))
-      → room < length (written st) → WriterGives st grants room 11 0
+      → room < sizeOf st → WriterGives st grants room 11 0
   -- Y0 "writer: the words written"
   done : T (wellFormed st) → T (grantsFine grants) → ((c : ℕ) → c < cells → Writable (termsOf grants) st (cell c))
-      → length (written st) ≤ room → WriterGives st grants room 0 (length (written st))
+      → sizeOf st ≤ room → WriterGives st grants room 0 (sizeOf st)
 
 -- ---- the query, of the cell of a number
 

@@ -1,5 +1,6 @@
--- Writing: the exact words, and what the writer answers.
+-- Writing: the exact words, how many they are, and what the size and the writer answer.
 -- P2 "The writer takes a state and a grant list, and makes a batch of the state."
+-- P11 "The size takes a state and a grant list, and tells how many words the writer makes of the state."
 -- Assumes nothing.
 use mathlib.Core.Bool.{Bool, true, false, _&&_, cond}
 use mathlib.Core.List.{List, [], _∷_, _++_}
@@ -77,6 +78,10 @@ written st = wordsFor (marked st) st
 
 -- ---- how many words they are
 
+-- W6 "The number of words that a state needs is that of the words that the writer writes for it."
+abbrev pub sizeOf : List ℕ → ℕ
+sizeOf st = length (written st)
+
 -- W4 "No state needs more than 184 words."
 abbrev pub mostWritten : ℕ
 mostWritten = 184
@@ -123,18 +128,30 @@ withPair true f = f
 withPair false (At c) = cond (eqb (c .0) 0) (At c) (At targetCell)
 withPair false Missing = At targetCell
 
--- ---- the call
+-- ---- the calls
 
 -- a bad cell is the answer; where there is none, what comes after
 abbrev pub exceptAt : Found → Answer → Answer
 exceptAt (At c) a = answer notWritable (c .0)
 exceptAt Missing a = a
 
--- A2 "1 before 2, and 2 before all others", A4 "The writer gives 12 before 11": the answer, given room for so many words;
--- Y11 "the output is shorter than they need", Y0 "writer: the words written"
-unfoldable pub writeAnswer : List ℕ → List ℕ → ℕ → Answer
-writeAnswer st grants room =
+-- what size and writer ask alike of a state and a grant list, A2 "1 before 2, and 2 before all others"; then what comes after
+abbrev pub onceWritable : List ℕ → List ℕ → Answer → Answer
+onceWritable st grants a =
     provided (wellFormed st) badState
-    (provided (grantsFine grants) badGrants
-    (exceptAt (withPair (pairFine (termsOf grants) st) (lowestBad (termsOf grants) st 0 cells))
-    (provided (leb (length (written st)) room) noRoom (answer success (length (written st))))))
+    (provided (grantsFine grants) badGrants (exceptAt (withPair (pairFine (termsOf grants) st) (lowestBad (termsOf grants) st 0 cells)) a))
+
+-- A10 "The size gives 1, 2 and 12 as the writer does, and is lent no output.", Y0 "size: the words needed"
+unfoldable pub sizeAnswer : List ℕ → List ℕ → Answer
+sizeAnswer st grants = onceWritable st grants (answer success (sizeOf st))
+
+-- A4 "The writer gives 12 before 11": the answer, given room for so many words; Y11 "the output is shorter than they need",
+-- Y0 "writer: the words written"
+unfoldable pub writeAnswer : List ℕ → List ℕ → ℕ → Answer
+writeAnswer st grants room = onceWritable st grants (provided (leb (sizeOf st) room) noRoom (answer success (sizeOf st)))
+
+-- D8 "The writer refuses what the size refuses, with the same answer; else it gives 11 exactly if the output has fewer words than the size
+-- tells, and success at that number if it has not.": the answer that the size's and the room make. The writer's is not defined by it; that
+-- it is this one is proved
+abbrev pub inRoom : ℕ → Answer → Answer
+inRoom room a = cond (eqb (a .reason) success) (provided (leb (a .place) room) noRoom a) a

@@ -98,6 +98,7 @@ use Rattle.engine.proofs.open.Reads as engine-open
 use Rattle.engine.proofs.feed.Reads as engine-feed
 use Rattle.engine.proofs.close.Reads as engine-close
 use Rattle.reader.proofs.read.Reads as read
+use Rattle.writer.proofs.size.Reads as size
 use Rattle.writer.proofs.write.Reads as write
 use Rattle.lister.proofs.list.Reads as list
 use Rattle.query.proofs.which_grant.Reads as which-grant
@@ -106,6 +107,7 @@ use Rattle.line_reader.proofs.read_line.Reads as read-line
 use Rattle.line_places.proofs.furthest.Reads as furthest
 use Rattle.listing_reader.proofs.read_listing.Reads as read-listing
 use Rattle.irangelda.proofs.irangelda_read.Reads as irangelda-read
+use Rattle.irangelda.proofs.irangelda_size.Reads as irangelda-size
 use Rattle.irangelda.proofs.irangelda_write.Reads as irangelda-write
 use Rattle.irangelda.proofs.irangelda_list.Reads as irangelda-list
 use Rattle.irangelda.proofs.irangelda_read_listing.Reads as irangelda-read-listing
@@ -124,6 +126,9 @@ asks-this = (λ p. p, λ p. p)
 -- of the library, on bytes of any length
 pub read-asks : AsksNothing read.Asked
 read-asks κs a = nothing-asked
+
+pub size-asks : AsksNothing size.Asked
+size-asks κs a = nothing-asked
 
 pub write-asks : AsksNothing write.Asked
 write-asks κs a = nothing-asked
@@ -151,6 +156,9 @@ engine-close-asks κs a = nothing-asked
 pub irangelda-read-asks : AsksNothing irangelda-read.Asked
 irangelda-read-asks = calls.irangelda-read-asks
 
+pub irangelda-size-asks : AsksNothing irangelda-size.Asked
+irangelda-size-asks = calls.irangelda-size-asks
+
 pub irangelda-write-asks : AsksNothing irangelda-write.Asked
 irangelda-write-asks = calls.irangelda-write-asks
 
@@ -163,13 +171,14 @@ irangelda-read-listing-asks = calls.irangelda-read-listing-asks
 pub irangelda-which-grant-asks : AsksNothing irangelda-which-grant.Asked
 irangelda-which-grant-asks = calls.irangelda-which-grant-asks
 
--- D1 "asks nothing of its caller": all thirteen
-pub asks-nothing : AsksNothing read.Asked × AsksNothing write.Asked × AsksNothing list.Asked × AsksNothing read-listing.Asked × AsksNothing which-grant.Asked
+-- D1 "asks nothing of its caller": all fifteen
+pub asks-nothing : AsksNothing read.Asked × AsksNothing size.Asked × AsksNothing write.Asked × AsksNothing list.Asked × AsksNothing read-listing.Asked × AsksNothing which-grant.Asked
     × AsksNothing engine-open.Asked × AsksNothing engine-feed.Asked × AsksNothing engine-close.Asked
-    × AsksNothing irangelda-read.Asked × AsksNothing irangelda-write.Asked × AsksNothing irangelda-list.Asked × AsksNothing irangelda-read-listing.Asked
+    × AsksNothing irangelda-read.Asked × AsksNothing irangelda-size.Asked × AsksNothing irangelda-write.Asked × AsksNothing irangelda-list.Asked × AsksNothing irangelda-read-listing.Asked
     × AsksNothing irangelda-which-grant.Asked
 asks-nothing = (
   read-asks,
+  size-asks,
   write-asks,
   list-asks,
   read-listing-asks,
@@ -178,6 +187,7 @@ asks-nothing = (
   engine-feed-asks,
   engine-close-asks,
   irangelda-read-asks,
+  irangelda-size-asks,
   irangelda-write-asks,
   irangelda-list-asks,
   irangelda-read-listing-asks,

@@ -85,7 +85,7 @@ module _ (x y z : List ℕ) {n : ℕ} {left : List ℕ} where
   unfolding exportedWriteLeaves
   write-refusal-changes-nothing call r = call .1 ∙ settle-refused (exportedWrite x y z) _ z (rw (write-number-tells-both call .0) at r)
 
-  -- A7 "D2, D3 and D5 speak of calls that 13 lets through.": the number tells an answer that the reader's contract allows on the same bytes,
+  -- A7 "D2, D3, D5 and D8 speak of calls that 13 lets through.": the number tells an answer that the reader's contract allows on the same bytes,
   -- with what is left, so that every promise of the reader is one of this call
   pub read-call-is-the-reader : ReadingBytes x y z n left → WordBuffers x y z → (a : Answer) × Tells n a × Reading x y z a left
   unfolding exportedReadLeaves

@@ -7,6 +7,7 @@ pub mod Histories
 pub mod Engine
 pub mod Listings
 pub mod Query
+pub mod Size
 pub mod OneAnswer
 pub mod Promises
 pub mod Switches

@@ -81,6 +81,7 @@ use Rattle.engine.proofs.feed.Reads as engine-feed
 use Rattle.engine.proofs.close.Reads as engine-close
 use Rattle.reader.proofs.read.Reads as read
 use Rattle.search.proofs.lowest_bad.Reads as lowest-bad
+use Rattle.writer.proofs.size.Reads as size
 use Rattle.writer.proofs.write.Reads as write
 use Rattle.lister.proofs.list.Reads as list
 use Rattle.query.proofs.which_grant.Reads as which-grant
@@ -96,6 +97,7 @@ use Rattle.bodies.proofs.take_scaler.Reads as take-scaler
 use Rattle.packets.proofs.read_packet.Reads as read-packet
 use Rattle.packets.proofs.read_packets.Reads as read-packets
 use Rattle.irangelda.proofs.irangelda_read.Reads as irangelda-read
+use Rattle.irangelda.proofs.irangelda_size.Reads as irangelda-size
 use Rattle.irangelda.proofs.irangelda_write.Reads as irangelda-write
 use Rattle.irangelda.proofs.irangelda_list.Reads as irangelda-list
 use Rattle.irangelda.proofs.irangelda_read_listing.Reads as irangelda-read-listing
@@ -335,6 +337,9 @@ pair-kept-one κs a r r' s s' p q = (one-answer (p .0) (q .0), one-answer (p .1)
 pub read-one : (κs : _) (a : _) (r r' : _) (s s' : _) → read.Learnt κs a r s → read.Learnt κs a r' s' → (r ≡ r') × (now (s .1 .1 .0) ≡ now (s' .1 .1 .0))
 read-one κs a r r' s s' p q = let same = one-answer (p .0) (q .0) in (same, one-answer (rw same at (p .1)) (q .1))
 
+pub size-one : Determined size.Learnt
+size-one κs a r r' s s' p q = one-answer p q
+
 pub write-one : (κs : _) (a : _) (r r' : _) (s s' : _) → write.Learnt κs a r s → write.Learnt κs a r' s' → (r ≡ r') × (now (s .1 .1 .0) ≡ now (s' .1 .1 .0))
 write-one κs a r r' s s' p q = let same = one-answer (p .0) (q .0) in (same, one-answer (rw same at (p .1)) (q .1))
 
@@ -421,6 +426,9 @@ engine-close-one κs a r r' s s' p q = ap₂ (λ (x : Answer) (st : List ℕ). r
 pub irangelda-read-one : (κs : _) (a : _) (r r' : _) (s s' : _) → irangelda-read.Learnt κs a r s → irangelda-read.Learnt κs a r' s'
     → (r ≡ r') × (now (s .1 .1 .0) ≡ now (s' .1 .1 .0))
 irangelda-read-one κs a r r' s s' p q = (one-answer (p .0) (q .0), one-answer (p .1) (q .1))
+
+pub irangelda-size-one : Determined irangelda-size.Learnt
+irangelda-size-one κs a r r' s s' p q = one-answer p q
 
 pub irangelda-write-one : (κs : _) (a : _) (r r' : _) (s s' : _) → irangelda-write.Learnt κs a r s → irangelda-write.Learnt κs a r' s'
     → (r ≡ r') × (now (s .1 .1 .0) ≡ now (s' .1 .1 .0))

@@ -36,12 +36,12 @@ use Rattle.numbering.proofs.Grants.{length-grants, fine-list}
 use Rattle.numbering.proofs.Numbering.{granted-which, numbered-low, lowest-iff, none-iff}
 use Rattle.numbering.proofs.Answers as theory
 use Rattle.keeping.proofs.Keeping.{names}
-use Rattle.irangelda.proofs.Buffers.{which-13}
+use Rattle.irangelda.proofs.Buffers.{two-13}
 use Rattle.query.proofs.which_grant.Reads as which-grant
 use Rattle.irangelda.proofs.irangelda_which_grant.Reads as irangelda-which-grant
 use Rattle.promises.proofs.Promises.{last-write-holds, stays-well-formed, nothing-outside-a-grant, one-cut}
 use Rattle.promises.proofs.Driver.{bad-buffer}
-use Rattle.promises.specs.Contracts.{Reading, Querying, Testing, QueryingBytes, QueryBuffers, Tells, BadBuffer}
+use Rattle.promises.specs.Contracts.{Reading, Querying, Testing, QueryingBytes, TwoBuffers, Tells, BadBuffer}
 
 -- ==== The contracts
 
@@ -173,11 +173,11 @@ module _ (st grants : List ℕ) (c : ℕ) (n : ℕ) (call : QueryingBytes st gra
   query-number-tells-both = rw call (number-tells _ (theory.which-call-range st grants (cell c)))
 
   -- Y13 "a buffer has more than 65,536 bytes, or a buffer of words has a length that is no multiple of 4"
-  pub query-bad-buffer-exactly : BadBuffer n (QueryBuffers st grants)
-  query-bad-buffer-exactly =
-      bad-buffer n _ call query-number-tells-both (theory.which-13-exactly st grants (cell c)) (λ f. which-13 st grants (cell c) f)
+  pub query-bad-buffer-exactly : BadBuffer n (TwoBuffers st grants)
+  unfolding exportedWhichGrant
+  query-bad-buffer-exactly = bad-buffer n _ call query-number-tells-both (theory.which-13-exactly st grants (cell c)) (two-13 st grants _)
 
   -- what 13 lets through is the query on the same bytes, so that every promise of the query is one of this call
-  pub query-call-is-the-query : QueryBuffers st grants → (a : Answer) × Tells n a × Querying st grants c a
+  pub query-call-is-the-query : TwoBuffers st grants → (a : Answer) × Tells n a × Querying st grants c a
   query-call-is-the-query fine =
       (exportedWhichGrant st grants (cell c), query-number-tells-both, theory.which-call st grants (cell c) fine)

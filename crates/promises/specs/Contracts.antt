@@ -1,12 +1,12 @@
--- What the contracts of reader, writer, lister, listing reader, engine and query allow, and those of the calls of the driver: an answer, and what
+-- What the contracts of reader, size, writer, lister, listing reader, engine and query allow, and those of the calls of the driver: an answer, and what
 -- is left in the buffer that is lent to be changed.
 -- Assumes nothing.
 use mathlib.Core.Path.{_≡_}
 use mathlib.Core.Logic.{_↔_}
-use mathlib.Core.Bool.{_&&_}
+use mathlib.Core.Bool.{_&&_, cond}
 use mathlib.Core.List.{List, [], _∷_, _++_}
 use Prim.Native.Nat.{ℕ, _/_, _%_}
-use lib.Dec.{T}
+use lib.Dec.{T, eqb}
 use lib.ListN.{length, replicate}
 use Rattle.laws.specs.Lists.{All, every, over}
 use Rattle.meaning.specs.declared.Memory.{Memory}
@@ -15,13 +15,13 @@ use Rattle.meaning.specs.declared.Answer.{Answer}
 use Rattle.meaning.specs.Words.{Byte, wordsOf, bytesOf}
 use Rattle.meaning.specs.Registers.{cell}
 use Rattle.meaning.specs.Grants.{Terms, mostGrants, grantsOf}
-use Rattle.meaning.specs.Answers.{answer, numberOf, settle}
+use Rattle.meaning.specs.Answers.{success, answer, numberOf, settle}
 use Rattle.meaning.specs.Reader.{readAnswer, readLeaves}
-use Rattle.meaning.specs.Writer.{written, writeAnswer}
+use Rattle.meaning.specs.Writer.{written, sizeAnswer, writeAnswer}
 use Rattle.meaning.specs.Query.{queryAnswer}
 use Rattle.meaning.specs.Lister.{listAnswer, listLeaves}
 use Rattle.meaning.specs.ListingReader.{listingAnswer, listingLeaves}
-use Rattle.meaning.specs.Exported.{bufferFine, wordBufferFine, exportedRead, exportedReadLeaves, exportedWrite, exportedWriteLeaves, exportedList, exportedListLeaves, exportedReadListing, exportedReadListingLeaves, exportedWhichGrant}
+use Rattle.meaning.specs.Exported.{bufferFine, wordBufferFine, exportedRead, exportedReadLeaves, exportedSize, exportedWrite, exportedWriteLeaves, exportedList, exportedListLeaves, exportedReadListing, exportedReadListingLeaves, exportedWhichGrant}
 use Rattle.grants.specs.Kept.{Keeps, partOf, whichIn}
 use Rattle.keeping.specs.Keeping.{keptOf}
 use Rattle.asking.specs.Asked.{capped}
@@ -37,10 +37,19 @@ Reading batch grants st a left =
     (a ≡ readAnswer (wordsOf batch) (wordsOf grants) (wordsOf st))
     × (left ≡ settle a (over (bytesOf (readLeaves (wordsOf batch) (wordsOf grants) (wordsOf st))) st) st)
 
+-- `writer::size` on the bytes of a state and of a grant list answers a. No buffer is lent to be changed
+abbrev pub Sizing : List ℕ → List ℕ → Answer → Type 0
+Sizing st grants a = a ≡ sizeAnswer (wordsOf st) (wordsOf grants)
+
 -- `writer::write` on the bytes of a state, of a grant list and of an output answers a and leaves the bytes `left` of the output
 abbrev pub Writing : List ℕ → List ℕ → List ℕ → Answer → List ℕ → Type 0
 Writing st grants out a left =
     (a ≡ writeAnswer (wordsOf st) (wordsOf grants) (length out / 4)) × (left ≡ settle a (over (bytesOf (written (wordsOf st))) out) out)
+
+-- what a caller is told who asks the size first, and then has the state written unless the size is refused: the answer z of the one, or the
+-- answer a of the other
+abbrev pub sizeFirst : Answer → Answer → Answer
+sizeFirst z a = cond (eqb (z .reason) success) a z
 
 -- `lister::list` on the bytes of a state and an output answers a and leaves the output `left`
 abbrev pub Listing : List ℕ → List ℕ → Answer → List ℕ → Type 0
@@ -94,6 +103,10 @@ answered e = answer (e .reason) (e .place)
 abbrev pub ReadingBytes : List ℕ → List ℕ → List ℕ → ℕ → List ℕ → Type 0
 ReadingBytes batch grants st n left = (n ≡ numberOf (exportedRead batch grants st)) × (left ≡ exportedReadLeaves batch grants st)
 
+-- `irangelda_size` on the bytes of a state and of a grant list answers n
+abbrev pub SizingBytes : List ℕ → List ℕ → ℕ → Type 0
+SizingBytes st grants n = n ≡ numberOf (exportedSize st grants)
+
 -- `irangelda_write` on the bytes of a state, of a grant list and of an output answers n and leaves the output `left`
 abbrev pub WritingBytes : List ℕ → List ℕ → List ℕ → ℕ → List ℕ → Type 0
 WritingBytes st grants out n left = (n ≡ numberOf (exportedWrite st grants out)) × (left ≡ exportedWriteLeaves st grants out)
@@ -119,9 +132,9 @@ WordBuffers a b c = T (every wordBufferFine (a ∷ b ∷ c ∷ []))
 abbrev pub ListerBuffers : List ℕ → List ℕ → Type 0
 ListerBuffers st text = T (wordBufferFine st && bufferFine text)
 
--- and both buffers of the query
-abbrev pub QueryBuffers : List ℕ → List ℕ → Type 0
-QueryBuffers st grants = T (wordBufferFine st && wordBufferFine grants)
+-- and both buffers of size and query
+abbrev pub TwoBuffers : List ℕ → List ℕ → Type 0
+TwoBuffers st grants = T (wordBufferFine st && wordBufferFine grants)
 
 -- C3 "A C call answers one number: place × 256 + reason.": its reason and its place are those of a
 abbrev pub Tells : ℕ → Answer → Type 0

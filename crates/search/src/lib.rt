@@ -217,7 +217,8 @@ pub fn lowest_bad(
         }
         c += 2;
     }
-    while c < FIRST_VIDEO {
+    // by `!=`, with which the compiler counts in one number where `<` takes two
+    while c != FIRST_VIDEO {
         let bad = bad_in_sample(state, c, starts, lasts, numbers);
         if bad < c + 3 {
             return bad;

@@ -1,13 +1,12 @@
--- The writer's answer, by what its tests came to; and what a search tells that finds no bad cell.
+-- The size's answer, by what its tests came to; and what success tells of a state.
 -- Assumes nothing.
 use mathlib.Core.Path.{_≡_, refl, sym, ap, _∙_}
 use mathlib.Core.Bool.{Bool, true, false, cond}
 use mathlib.Core.List.{List}
 use Prim.Native.Nat.{ℕ, _≤_, _<_}
 use native.Mathlib.Omega.{arith}
-use borrow.Author.Tests.{le-leb, lt-leb, eqb-true}
+use borrow.Author.Tests.{eqb-true}
 use lib.Dec.{T, eqb}
-use lib.ListN.{length}
 use mir.Facts.{eqb-yes}
 use Rattle.laws.specs.Lists.{every, from}
 use Rattle.laws.proofs.Lists.{every-from}
@@ -20,9 +19,10 @@ use Rattle.meaning.specs.declared.Memory.the-variants.{Either, Only}
 use Rattle.meaning.specs.Grants.{Terms, grantsOf, grantsFine, granted, termsOf}
 use Rattle.meaning.specs.State.{marked, wellFormed}
 use Rattle.meaning.specs.Pair.{targetCell, pairFine}
-use Rattle.meaning.specs.Answers.{badState, badGrants, noRoom, notWritable, success, answer}
+use Rattle.meaning.specs.Answers.{badState, badGrants, notWritable, success, answer}
 use Rattle.meaning.specs.Reasons.{CellFine}
-use Rattle.meaning.specs.Writer.{written, needFor, lowestBad, withPair, exceptAt, writeAnswer}
+use Rattle.meaning.specs.Writer.{written, sizeOf, needFor, lowestBad, withPair, exceptAt, sizeAnswer}
+use Rattle.meaning.proofs.States.{Sound}
 use Rattle.meaning.proofs.Writing.{need-is-length}
 use Rattle.meaning.proofs.Round.{Lowest, lowest-told}
 use Rattle.emitter_3d.specs.Emitted.{Narrow}
@@ -45,22 +45,21 @@ at-cell c l e = (λ h a. ap (answer notWritable) e, λ h. absurd (omega arith))
 
 module _ (g : Terms) (st : List ℕ) where
   -- cell 1 goes before any cell but cell 0
-  with-pair : (fine : Bool) (f : Found) → Lowest g st 0 cells f → {low : ℕ} → low ≡ lowestWith fine (orEnd f cells) → Tells (withPair fine f) low × (cells ≤ low → f ≡ Missing)
-  with-pair true (At c) is e = let same : lowestWith true (c .0) ≡ c .0 = as-found (c .0) (eqb (c .0) 0) refl in (at-cell c (is .to) (e ∙ same), λ h. absurd (omega (arith, is .to)))
+  with-pair : (fine : Bool) (f : Found) → Lowest g st 0 cells f → {low : ℕ} → low ≡ lowestWith fine (orEnd f cells) → Tells (withPair fine f) low
+  with-pair true (At c) is e = let same : lowestWith true (c .0) ≡ c .0 = as-found (c .0) (eqb (c .0) 0) refl in at-cell c (is .to) (e ∙ same)
     where
       as-found : (n : ℕ) (b : Bool) → eqb n 0 ≡ b → cond b 0 n ≡ n
       as-found n true z = sym (eqb-true n 0 z)
       as-found n false z = refl
-  with-pair true Missing is e = ((λ h. absurd (omega arith), λ h. refl), λ h. refl)
+  with-pair true Missing is e = (λ h. absurd (omega arith), λ h. refl)
   with-pair false (At c) is e = by (eqb (c .0) 0) refl e
     where
-      by : (b : Bool) → eqb (c .0) 0 ≡ b → {low : ℕ} → low ≡ cond b 0 1 → Tells (cond b (At c) (At targetCell)) low × (cells ≤ low → At c ≡ Missing)
-      by true z x = (at-cell c (is .to) (x ∙ sym (eqb-true (c .0) 0 z)), λ h. absurd (omega arith))
-      by false z x = (at-cell targetCell (omega arith) x, λ h. absurd (omega arith))
-  with-pair false Missing is e = (at-cell targetCell (omega arith) e, λ h. absurd (omega arith))
+      by : (b : Bool) → eqb (c .0) 0 ≡ b → {low : ℕ} → low ≡ cond b 0 1 → Tells (cond b (At c) (At targetCell)) low
+      by true z x = at-cell c (is .to) (x ∙ sym (eqb-true (c .0) 0 z))
+      by false z x = at-cell targetCell (omega arith) x
+  with-pair false Missing is e = at-cell targetCell (omega arith) e
 
-  told : {low : ℕ} → low ≡ lowestWith (pairFine g st) (lowest g st 0 cells)
-      → Tells (withPair (pairFine g st) (lowestBad g st 0 cells)) low × (cells ≤ low → lowestBad g st 0 cells ≡ Missing)
+  told : {low : ℕ} → low ≡ lowestWith (pairFine g st) (lowest g st 0 cells) → Tells (withPair (pairFine g st) (lowestBad g st 0 cells)) low
   unfolding lowest
   told e = with-pair (pairFine g st) (lowestBad g st 0 cells) (lowest-told g st 0 cells) e
 
@@ -82,7 +81,7 @@ pub paired : (ws st : List ℕ) → T (grantsFine ws) → (starts lasts numbers 
     → low ≡ lowestWith (pairFine (termsOf ws) st) (lowest (termsOf ws) st 0 cells)
 paired ws st fine starts lasts numbers bounds names e its is = is ∙ rw (e, its, fine-is ws fine starts lasts numbers bounds names st)
 
--- ---- where no cell is bad, marked 3D values are narrow
+-- ---- where each marked cell holds what it may, marked 3D values are narrow
 
 -- by a computed test of each cell
 asWide : ℕ → Bool
@@ -96,41 +95,30 @@ wide-3D : (c : ℕ) → c < firstVideo → registerAt (cell c) .width ≡ 24
 unfolding asWide
 wide-3D c h = eqb-yes (every-from asWide 0 firstVideo tested c (omega arith) (omega arith))
 
-pub none-narrow : (g : Terms) (st : List ℕ) {low : ℕ} → low ≡ lowestWith (pairFine g st) (lowest g st 0 cells) → cells ≤ low → Narrow st
-none-narrow g st e l c h m =
-    let fine : Lowest g st 0 cells Missing = rw (told g st e .1 l) at (lowest-told g st 0 cells) in
-    rw (wide-3D c h) at (fine c (omega arith) (omega arith) m .narrow)
+pub sound-narrow : (g : Terms) (st : List ℕ) → Sound g st → Narrow st
+sound-narrow g st sound c h m = rw (wide-3D c h) at (sound .fine c (omega arith) m .narrow)
 
 -- ---- the answer
 
 -- the words that are needed are as many as are written
-pub as-written : (st : List ℕ) {need : ℕ} → need ≡ needFor (marked st) → need ≡ length (written st)
+pub as-written : (st : List ℕ) {need : ℕ} → need ≡ needFor (marked st) → need ≡ sizeOf st
 unfolding written
 as-written st e = e ∙ sym (need-is-length (marked st) st)
 
--- room for as many words as are needed is room for the words
-pub room-for : {need words room : ℕ} → need ≡ words → need ≤ room → words ≤ room
-room-for e h = omega arith
-
-module _ (st gs : List ℕ) (room : ℕ) where
-  pub refused-state : wellFormed st ≡ false → answer badState 0 ≡ writeAnswer st gs room
-  unfolding writeAnswer
+module _ (st gs : List ℕ) where
+  pub refused-state : wellFormed st ≡ false → answer badState 0 ≡ sizeAnswer st gs
+  unfolding sizeAnswer
   refused-state e = rw e
 
-  pub refused-grants : wellFormed st ≡ true → grantsFine gs ≡ false → answer badGrants 0 ≡ writeAnswer st gs room
-  unfolding writeAnswer
+  pub refused-grants : wellFormed st ≡ true → grantsFine gs ≡ false → answer badGrants 0 ≡ sizeAnswer st gs
+  unfolding sizeAnswer
   refused-grants e f = rw (e, f)
 
   module _ (e : wellFormed st ≡ true) (f : grantsFine gs ≡ true) {low : ℕ} (is : low ≡ lowestWith (pairFine (termsOf gs) st) (lowest (termsOf gs) st 0 cells)) where
-    pub refused-cell : low < cells → answer notWritable low ≡ writeAnswer st gs room
-    unfolding writeAnswer
-    refused-cell l = rw (e, f) (told (termsOf gs) st is .0 .0 l _)
+    pub refused-cell : low < cells → answer notWritable low ≡ sizeAnswer st gs
+    unfolding sizeAnswer
+    refused-cell l = rw (e, f) (told (termsOf gs) st is .0 l _)
 
-    module _ (l : cells ≤ low) {need : ℕ} (n : need ≡ length (written st)) where
-      pub refused-room : room < need → answer noRoom 0 ≡ writeAnswer st gs room
-      unfolding writeAnswer
-      refused-room h = rw (e, f, told (termsOf gs) st is .0 .1 l, lt-leb (length (written st)) room (omega arith))
-
-      pub done : need ≤ room → answer success need ≡ writeAnswer st gs room
-      unfolding writeAnswer
-      done h = rw (e, f, told (termsOf gs) st is .0 .1 l, le-leb (length (written st)) room (omega arith), n)
+    pub done : cells ≤ low → {need : ℕ} → need ≡ sizeOf st → answer success need ≡ sizeAnswer st gs
+    unfolding sizeAnswer
+    done l n = rw (e, f, told (termsOf gs) st is .1 l, n)

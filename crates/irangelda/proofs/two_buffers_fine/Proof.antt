@@ -2,8 +2,8 @@
 -- Assumes nothing.
 use borrow.Author.Needs.{needs}
 use Rattle.laws.proofs.Arms.{told-true, told-false}
-use Rattle.irangelda.proofs.query_buffers_fine.Statement.{statement}
-use Rattle.irangelda.proofs.query_buffers_fine.Tie as tie
+use Rattle.irangelda.proofs.two_buffers_fine.Statement.{statement}
+use Rattle.irangelda.proofs.two_buffers_fine.Tie as tie
 
 word-buffer-fine-requires : tie.Need-word-buffer-fine-requires
 word-buffer-fine-requires c κs = search needs
@@ -17,6 +17,6 @@ word-buffer-fine-requires-2 c κs = search needs
 returns-2 : tie.Need-returns-2
 returns-2 c = rw (told-true (c .before .before .word-buffer-fine .ensures) (c .before .if1 .left)) (c .word-buffer-fine2 .ensures)
 
-pub query-buffers-fine-spec : {M : Type 1} → statement M
-query-buffers-fine-spec =
+pub two-buffers-fine-spec : {M : Type 1} → statement M
+two-buffers-fine-spec =
     tie.close (tie.spec word-buffer-fine-requires returns word-buffer-fine-requires-2 returns-2)
