@@ -1,4 +1,3 @@
-pub mod Again
 pub mod AsksNothing
 pub mod Buffers
 pub mod Places

@@ -26,7 +26,7 @@ use Rattle.meaning.specs.Reasons.{ListerGives}
 use Rattle.meaning.proofs.Round.{leaves-formed}
 use Rattle.meaning.proofs.Outputs.{list-answer, listing-at-most}
 use Rattle.meaning.proofs.Exported.{read-call-range, list-call, list-call-leaves}
-use Rattle.irangelda.proofs.Again.{formed-again}
+use Rattle.listings.proofs.Again.{formed-again}
 use Rattle.list_batch.specs.Put.{Put}
 use Rattle.list_batch.specs.Printed.{decimal5, refusalLine, k1Grant, emptyBytes, answered, stateLeft, printed}
 use Rattle.list_batch.proofs.Puts.{five-digits}

@@ -1,3 +1,4 @@
+pub mod Again
 pub mod Forms
 pub mod Tells
 pub mod Lines

@@ -13,7 +13,7 @@ use Rattle.meaning.specs.Exported.{exportedRead, exportedReadLeaves}
 use Rattle.meaning.proofs.Bytes.{length-bytes, settle-done}
 use Rattle.meaning.proofs.States.{formed-iff, empty-well-formed}
 use Rattle.meaning.proofs.Round.{leaves-formed}
-use Rattle.irangelda.proofs.Again.{formed-again}
+use Rattle.listings.proofs.Again.{formed-again}
 use Rattle.name_grants.specs.Named.{emptyBytes, answered, stateLeft}
 
 module _ (grants batch : List ℕ) (accepted : answered grants batch .reason ≡ 0) where

@@ -136,6 +136,15 @@ module _ (st grants : List ℕ) (room : ℕ) where
   pub eleven-exactly : (writeAnswer st grants room .reason ≡ noRoom) ↔ ((sizeAnswer st grants .reason ≡ 0) × (room < sizeAnswer st grants .place))
   eleven-exactly = rw size-then-write (short-in room (sizeAnswer st grants) (size-reason st grants .0))
 
+  -- the writer's place is the size's, or 0
+  pub write-place : writeAnswer st grants room .place ≤ mostWritten
+  write-place = rw size-then-write (by (eqb (sizeAnswer st grants .reason) success) (leb (sizeAnswer st grants .place) room))
+    where
+      by : (b c : Bool) → cond b (provided c noRoom (sizeAnswer st grants)) (sizeAnswer st grants) .place ≤ mostWritten
+      by true true = size-place st grants
+      by true false = omega arith
+      by false c = size-place st grants
+
 -- ---- the calls of the driver
 
 module _ (st grants : List ℕ) where

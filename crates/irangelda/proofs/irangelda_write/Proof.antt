@@ -1,11 +1,12 @@
 -- 13 where a buffer is bad; else the writer's answer as a number.
 -- Assumes nothing.
 use Prim.Native.Nat.{_/_}
+use native.Mathlib.Omega.{arith}
 use borrow.Author.Needs.{needs}
 use lib.ListN.{length}
 use Rattle.laws.proofs.Arms.{told-true, told-false}
 use Rattle.meaning.specs.Words.{wordsOf}
-use Rattle.irangelda.proofs.Places.{write-place}
+use Rattle.sizing.proofs.Sizes.{write-place}
 use Rattle.irangelda.proofs.Buffers.{write-13, write-answered}
 use Rattle.irangelda.proofs.irangelda_write.Statement.{statement}
 use Rattle.irangelda.proofs.irangelda_write.Tie as tie
@@ -29,7 +30,7 @@ number-requires : tie.Need-number-requires
 number-requires c κs =
     let w = c .before .before in
     let a = w .before .before .before .before .before .before .before .before .args in
-    rw (w .write .ensures .0) (write-place (wordsOf (a .state .now)) (wordsOf (a .grants .now)) (length (a .out .now) / 4))
+    rw (w .write .ensures .0) (omega (arith, write-place (wordsOf (a .state .now)) (wordsOf (a .grants .now)) (length (a .out .now) / 4)))
 
 same-length-2 : tie.Need-same-length-2
 same-length-2 c = search needs

@@ -130,7 +130,7 @@ refused-requires-3 : tie.Need-refused-requires-3
 refused-requires-3 c κs = search needs
 
 returns-3 : tie.Need-returns-3
-returns-3 c = let l = c .before .before in refusal (c .refused3 .ensures) (refused-cell _ _ (formed-at l) (fine-at l) (low l) (c .before .if3 .taken)) (λ e. omega arith)
+returns-3 c = let l = c .before .before in refusal (c .refused3 .ensures) (refused-cell _ _ (formed-at l) (fine-at l) (low l) (omega (arith, c .before .if3 .taken))) (λ e. omega arith)
 
 needed-requires : tie.Need-needed-requires
 needed-requires c κs = formed-whole (else-1 (else-2 (placed (c .before))))
