@@ -2,8 +2,9 @@
  * Irangelda: a gate in front of a graphics chip.
  *
  * A program hands the driver a batch of register writes. irangelda_read looks at every word of it, and changes the register state
- * only if the whole batch is permitted. irangelda_write gives a state back as a batch; irangelda_list gives it as text, and
- * irangelda_read_listing gives the state of such a text. irangelda_which_grant says which grant admits the address in a register.
+ * only if the whole batch is permitted. irangelda_write gives a state back as a batch, and irangelda_size says beforehand how many
+ * words that batch has; irangelda_list gives the state as text, and irangelda_read_listing gives the state of such a text.
+ * irangelda_which_grant says which grant admits the address in a register.
  *
  * Every buffer is bytes and every length is in bytes. A word is 32 bits, its lowest byte first. No alignment is needed.
  *
@@ -83,17 +84,17 @@ extern "C" {
  * in bytes, from 0.
  *
  * Where several reasons would fit, the order is 13, 1, 2; then the reader goes through the words from the front and takes the
- * lowest number at the first bad word, with 10 and then 14 last; the writer takes 12 before 11. The listing reader gives 13, 1 or
- * 19, in this order, and the query 13, 1 or 2.
+ * lowest number at the first bad word, with 10 and then 14 last; the writer gives what the size gives, 12 among it, before 11. The
+ * listing reader gives 13, 1 or 19, in this order, and the query 13, 1 or 2.
  */
 enum irangelda_reason {
-    /* Done. Place: the length of the batch in words (read), words written (write), bytes written (list), the length of the listing
-       in bytes (read a listing), the number of the grant or 64 (which grant). */
+    /* Done. Place: the length of the batch in words (read), words needed (size), words written (write), bytes written (list), the
+       length of the listing in bytes (read a listing), the number of the grant or 64 (which grant). */
     IRANGELDA_OK = 0,
-    /* Read, write, list, which grant: the state is not 202 words, or a mark is neither 0 nor 1, or an unmarked value is not 0. Read
+    /* Read, size, write, list, which grant: the state is not 202 words, or a mark is neither 0 nor 1, or an unmarked value is not 0. Read
        a listing: the state is not 202 words; what they are does not matter. Place: 0. */
     IRANGELDA_BAD_STATE = 1,
-    /* Read, write, which grant: the list is not 0 to 64 whole grants, or a grant has another role, ends past 2^32, has reach 0 or is
+    /* Read, size, write, which grant: the list is not 0 to 64 whole grants, or a grant has another role, ends past 2^32, has reach 0 or is
        in another memory than its role may be. Place: 0. */
     IRANGELDA_BAD_GRANTS = 2,
     /* Read: the offset in a header is neither 043Ch nor a video register. Place: the header. */
@@ -112,9 +113,9 @@ enum irangelda_reason {
     IRANGELDA_NOT_GRANTED = 9,
     /* Read: the batch ends inside a packet, and no word before its end is bad. Place: the length of the batch in words. */
     IRANGELDA_ENDS_INSIDE = 10,
-    /* Write, list: out is too short. Place: 0. */
+    /* Write, list: out is too short. For write: it has fewer words than irangelda_size tells. Place: 0. */
     IRANGELDA_NO_ROOM = 11,
-    /* Write: a marked cell holds a value that the reader would refuse under these grants, or a 3D value of 2^24 or more; or the
+    /* Size, write: a marked cell holds a value that the reader would refuse under these grants, or a 3D value of 2^24 or more; or the
        target's address, cell 1, is not granted in the memory that cell 2 names. Place: the lowest such cell, 0 to 100. */
     IRANGELDA_NOT_WRITABLE = 12,
     /* All calls: a buffer is longer than 65,536 bytes, or a word buffer is not a multiple of 4 long. Place: 0. */
@@ -149,12 +150,21 @@ uint64_t irangelda_read(const uint8_t *batch, size_t batch_len,
                         const uint8_t *grants, size_t grants_len,
                         uint8_t *state, size_t state_len);
 
+/*
+ * Says how many words irangelda_write needs for a state. Reason 0: the place is their number, 0 to 184; an out of place * 4 bytes, or
+ * of more, then gets the words, and the answer is the same, as long as state and grants are. Any other reason is irangelda_write's, at
+ * the same place, whatever the room. No buffer is changed.
+ *
+ *   state, state_len    looked at: 808 bytes.
+ *   grants, grants_len  looked at. 0 bytes is no grants.
+ */
 uint64_t irangelda_size(const uint8_t *state, size_t state_len,
                         const uint8_t *grants, size_t grants_len);
 
 /*
  * Writes a state as a batch that takes the empty state to it and that irangelda_read accepts under the same grants. Reason 0: the
- * words stand in out, in its first place * 4 bytes. Any other reason: out is as it was.
+ * words stand in out, in its first place * 4 bytes. Any other reason: out is as it was. It is irangelda_size's, if that is not 0; else
+ * 11, if out has fewer words than irangelda_size tells.
  *
  *   state, state_len    looked at: 808 bytes.
  *   grants, grants_len  looked at. 0 bytes is no grants.

@@ -22,6 +22,7 @@ static struct {
 static const struct client *limits_of;
 static unsigned reason, place, copies, ring_puts, locked;
 static int ring_is_full, no_limits, chip_hangs, memory_is_out;
+static size_t lengths_allocated;
 
 void complain(enum irangelda_reason r, uint32_t p)
 {
@@ -36,6 +37,12 @@ uint8_t *private_copy(const void *from_program, size_t len)
     if (copy != NULL)
         memcpy(copy, from_program, len);
     return copy;
+}
+
+uint8_t *allocate(size_t len)
+{
+    lengths_allocated += len;
+    return memory_is_out ? NULL : malloc(len);
 }
 
 void release(uint8_t *batch) { free(batch); }
@@ -323,6 +330,46 @@ static void grants_behind(void)
     expect(grant_behind(&damaged, 1) == IRANGELDA_NO_GRANT && reason == IRANGELDA_BAD_STATE, "driver: a damaged state: %u at %u", reason, place);
 }
 
+/* ---- sizes */
+
+/* The words are the writer's in room enough, in memory of just their length. */
+static void has_words(const struct client *client, size_t count, const char *what)
+{
+    uint8_t enough[IRANGELDA_WRITE_BYTES_ENOUGH], *words;
+    size_t len, before = lengths_allocated;
+    uint64_t answer = irangelda_write(client->state, STATE_BYTES, client->grants, client->grants_len, enough, sizeof enough);
+    expect(answer == (uint64_t)count * 256, "driver: the words of %s are not %zu", what, count);
+    expect(words_of(client, &words, &len) == DONE && len == 4 * count, "driver: the words of %s in %zu bytes", what, len);
+    expect(lengths_allocated == before + len, "driver: allocated for %s: %zu", what, lengths_allocated - before);
+    expect((words == NULL) == (len == 0) && (len == 0 || memcmp(words, enough, len) == 0), "driver: other words of %s", what);
+    release(words);
+}
+
+static void has_no_words(const struct client *client, enum outcome wanted, const char *what)
+{
+    uint8_t *words;
+    size_t len;
+    reason = place = 0;
+    expect(words_of(client, &words, &len) == wanted && words == NULL && len == 0, "driver: %s has words", what);
+}
+
+static void sizes(void)
+{
+    start(&chart, CHART);
+    has_words(&chart, IRANGELDA_WRITE_WORDS_ENOUGH, "a program that was just started");
+    struct client small = chart;
+    memset(small.state, 0, STATE_BYTES);
+    has_words(&small, 0, "a program with the empty state");
+    put_word(small.state, CELLS + 84, 1);
+    has_words(&small, 2, "a program with one register");
+    memory_is_out = 1;
+    has_no_words(&small, NO_MEMORY, "a program without memory");
+    memory_is_out = 0;
+    put_word(small.state, 84, 0xf800f800);
+    has_no_words(&small, REFUSED, "a program with a bad register");
+    expect(reason == IRANGELDA_NOT_WRITABLE && place == 84, "driver: a bad register, sized: %u at %u", reason, place);
+}
+
 int main(void)
 {
     turns();
@@ -331,6 +378,7 @@ int main(void)
     leftover();
     listings();
     grants_behind();
+    sizes();
     if (failures != 0) {
         printf("the page for drivers: %lu of %lu checks failed\n", failures, checks);
         return 1;

@@ -12,10 +12,12 @@ use super::desk::row;
 use engine::Engine;
 use meaning::Answer;
 
-// The two calls.
+// The calls. The first two are columns of the reasons' table too; the size is counted with the writes.
 pub(super) const READ: usize = 0;
 
 pub(super) const WRITE: usize = 1;
+
+pub(super) const SIZE: usize = 2;
 
 // An answer is one number, as in the C call: the place times 256, and the reason.
 pub(super) fn answer(reason: u32, place: usize) -> u64 {
@@ -44,10 +46,10 @@ fn part_mut(bytes: &mut [u8], n: usize) -> &mut [u8] {
 }
 
 fn call(kind: usize, from: &[u8], grants: &[u8], into: &mut [u8]) -> u64 {
-    if kind == READ {
-        number(reader::read(from, grants, into))
-    } else {
-        number(writer::write(from, grants, into))
+    match kind {
+        READ => number(reader::read(from, grants, into)),
+        WRITE => number(writer::write(from, grants, into)),
+        _ => number(writer::size(from, grants)),
     }
 }
 

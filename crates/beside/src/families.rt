@@ -11,6 +11,7 @@ use super::desk::dice;
 use super::desk::fill;
 use super::desk::len;
 use super::desk::minus;
+use super::desk::plus;
 use super::desk::put;
 use super::desk::shifted;
 use super::desk::sum;
@@ -21,6 +22,7 @@ use super::making::some_grants;
 use super::making::some_pair;
 use super::making::some_state;
 use super::tally::check_read;
+use super::tally::check_size;
 use super::tally::check_write;
 use super::tally::end_family;
 
@@ -29,17 +31,23 @@ fn told_bytes(told: u64) -> usize {
     (told / 256 % 65536 * 4) as usize
 }
 
-// The state that an accepted batch left, written: in room enough, in just enough, in one byte less; under other grants;
-// and with a word of it changed.
+// The size, and the state written: in as much room as it tells, in one byte less and in one word more. Where the size is refused for a
+// cell, the room is around that cell's number.
+fn check_around(desk: &mut Desk) {
+    let n = told_bytes(check_size(desk));
+    check_write(desk, n);
+    check_write(desk, minus(n, 1));
+    check_write(desk, plus(n, 4));
+}
+
+// The state that an accepted batch left; under other grants; and with a word of it changed.
 fn check_left(desk: &mut Desk, seed: u32) {
     copy(desk, LEFT, STATE);
-    let told = check_write(desk, 800);
-    check_write(desk, told_bytes(told));
-    check_write(desk, minus(told_bytes(told), 1));
+    check_around(desk);
     change_word(desk, GRANTS, dice(seed, 1));
-    check_write(desk, 800);
+    check_around(desk);
     change_word(desk, STATE, dice(seed, 2));
-    check_write(desk, 800);
+    check_around(desk);
 }
 
 // A made-up batch in which of 32 values so many are bad, damaged in that way.

@@ -1,4 +1,4 @@
-// Runs the reader and the writer beside second ones that share nothing with them, written from the rules with a table
+// Runs the reader, the size and the writer beside second ones that share nothing with them, written from the rules with a table
 // of their own: on made-up batches and grants, whole or damaged in one place, and on the states that accepted batches
 // leave. Each batch is also fed to an engine, word by word, and to one that is nearly full. No answer is stated here: the two have to agree, in every
 // byte of every buffer too. It prints how many calls each family made, how many words it fed, and how many of all

@@ -463,8 +463,8 @@ fn lay_out(desk: &mut Desk, room: usize) -> u64 {
     answer(0, n)
 }
 
-// Writes the state into so many bytes of RIGHT.
-pub(super) fn write(desk: &mut Desk, bytes: usize) -> u64 {
+// How many words the state is written as; they are then at ROUGH.
+pub(super) fn size(desk: &mut Desk) -> u64 {
     let seen = &*desk;
     let bad = judge_lists(seen, STATE);
     if bad != 0 {
@@ -475,5 +475,14 @@ pub(super) fn write(desk: &mut Desk, bytes: usize) -> u64 {
         return answer(12, refused);
     }
     put_words(desk);
+    answer(0, len(desk, ROUGH))
+}
+
+// Writes the state into so many bytes of RIGHT.
+pub(super) fn write(desk: &mut Desk, bytes: usize) -> u64 {
+    let told = size(desk);
+    if told % 256 != 0 {
+        return told;
+    }
     lay_out(desk, bytes >> 2)
 }

@@ -2,11 +2,13 @@
 // and made-up values by row and reason.
 use super::calls;
 use super::calls::READ;
+use super::calls::SIZE;
 use super::calls::WRITE;
 use super::desk::BATCH;
 use super::desk::BEFORE;
 use super::desk::COUNTS;
 use super::desk::Desk;
+use super::desk::GRANTS;
 use super::desk::LEFT;
 use super::desk::RIGHT;
 use super::desk::STATE;
@@ -106,13 +108,13 @@ pub(super) fn check_answer(desk: &mut Desk, column: usize, first: u64, due: u64)
 fn check(desk: &mut Desk, kind: usize, bytes: usize) -> u64 {
     copy(desk, BEFORE, RIGHT);
     let first = calls::first(desk, kind, bytes);
-    let other = if kind == READ {
-        second::read(desk)
-    } else {
-        second::write(desk, bytes)
+    let other = match kind {
+        READ => second::read(desk),
+        WRITE => second::write(desk, bytes),
+        _ => second::size(desk),
     };
     add_one(desk, CALLS);
-    count_reason(desk, first, kind);
+    count_reason(desk, first, if kind == READ { READ } else { WRITE });
     if !agree(desk, first, other) {
         note_difference(desk, first, other);
     }
@@ -134,6 +136,13 @@ pub(super) fn check_read(desk: &mut Desk) -> u64 {
 pub(super) fn check_write(desk: &mut Desk, bytes: usize) -> u64 {
     fill(desk, BEFORE, 0x5a, 0);
     check(desk, WRITE, bytes)
+}
+
+// The words that the state needs, with a few bytes behind its buffers.
+pub(super) fn check_size(desk: &mut Desk) -> u64 {
+    copy(desk, STATE, BEFORE);
+    let more = len(desk, GRANTS);
+    check(desk, SIZE, more)
 }
 
 fn tell_family(desk: &Desk, name: &[u8]) {
@@ -180,7 +189,7 @@ fn tell_table(desk: &Desk, name: &[u8], start: usize, end: usize) {
 pub(super) fn tell(desk: &Desk) {
     tell_table(
         desk,
-        b"reasons 0 to 12, 14 and 23, a line each: reads, writes, openings and words fed, closings\n",
+        b"reasons 0 to 12, 14 and 23, a line each: reads, writes with sizes, openings and words fed, closings\n",
         0,
         60,
     );
