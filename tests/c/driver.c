@@ -339,7 +339,8 @@ static void has_words(const struct client *client, size_t count, const char *wha
     size_t len, before = lengths_allocated;
     uint64_t answer = irangelda_write(client->state, STATE_BYTES, client->grants, client->grants_len, enough, sizeof enough);
     expect(answer == (uint64_t)count * 256, "driver: the words of %s are not %zu", what, count);
-    expect(words_of(client, &words, &len) == DONE && len == 4 * count, "driver: the words of %s in %zu bytes", what, len);
+    enum outcome outcome = words_of(client, &words, &len);
+    expect(outcome == DONE && len == 4 * count, "driver: the words of %s: outcome %d, %zu bytes", what, (int)outcome, len);
     expect(lengths_allocated == before + len, "driver: allocated for %s: %zu", what, lengths_allocated - before);
     expect((words == NULL) == (len == 0) && (len == 0 || memcmp(words, enough, len) == 0), "driver: other words of %s", what);
     release(words);
@@ -350,7 +351,8 @@ static void has_no_words(const struct client *client, enum outcome wanted, const
     uint8_t *words;
     size_t len;
     reason = place = 0;
-    expect(words_of(client, &words, &len) == wanted && words == NULL && len == 0, "driver: %s has words", what);
+    enum outcome outcome = words_of(client, &words, &len);
+    expect(outcome == wanted && words == NULL && len == 0, "driver: words of %s: outcome %d, %zu bytes", what, (int)outcome, len);
 }
 
 static void sizes(void)
