@@ -91,11 +91,11 @@ enum irangelda_reason {
     /* Done. Place: the length of the batch in words (read), words needed (size), words written (write), bytes written (list), the
        length of the listing in bytes (read a listing), the number of the grant or 64 (which grant). */
     IRANGELDA_OK = 0,
-    /* Read, size, write, list, which grant: the state is not 202 words, or a mark is neither 0 nor 1, or an unmarked value is not 0. Read
-       a listing: the state is not 202 words; what they are does not matter. Place: 0. */
+    /* Read, size, write, list, which grant: the state is not 202 words, or a mark is neither 0 nor 1, or an unmarked value is not
+       0. Read a listing: the state is not 202 words; what they are does not matter. Place: 0. */
     IRANGELDA_BAD_STATE = 1,
-    /* Read, size, write, which grant: the list is not 0 to 64 whole grants, or a grant has another role, ends past 2^32, has reach 0 or is
-       in another memory than its role may be. Place: 0. */
+    /* Read, size, write, which grant: the list is not 0 to 64 whole grants, or a grant has another role, ends past 2^32, has reach 0
+       or is in another memory than its role may be. Place: 0. */
     IRANGELDA_BAD_GRANTS = 2,
     /* Read: the offset in a header is neither 043Ch nor a video register. Place: the header. */
     IRANGELDA_BAD_OFFSET = 3,
@@ -115,8 +115,8 @@ enum irangelda_reason {
     IRANGELDA_ENDS_INSIDE = 10,
     /* Write, list: out is too short. For write: it has fewer words than irangelda_size tells. Place: 0. */
     IRANGELDA_NO_ROOM = 11,
-    /* Size, write: a marked cell holds a value that the reader would refuse under these grants, or a 3D value of 2^24 or more; or the
-       target's address, cell 1, is not granted in the memory that cell 2 names. Place: the lowest such cell, 0 to 100. */
+    /* Size, write: a marked cell holds a value that the reader would refuse under these grants, or a 3D value of 2^24 or more; or
+       the target's address, cell 1, is not granted in the memory that cell 2 names. Place: the lowest such cell, 0 to 100. */
     IRANGELDA_NOT_WRITABLE = 12,
     /* All calls: a buffer is longer than 65,536 bytes, or a word buffer is not a multiple of 4 long. Place: 0. */
     IRANGELDA_BAD_BUFFER = 13,
@@ -151,9 +151,9 @@ uint64_t irangelda_read(const uint8_t *batch, size_t batch_len,
                         uint8_t *state, size_t state_len);
 
 /*
- * Says how many words irangelda_write needs for a state. Reason 0: the place is their number, 0 to 184; an out of place * 4 bytes, or
- * of more, then gets the words, and the answer is the same, as long as state and grants are. Any other reason is irangelda_write's, at
- * the same place, whatever the room. No buffer is changed.
+ * Says how many words irangelda_write needs for a state. Reason 0: the place is their number, 0 to 184; with an out of place * 4
+ * bytes, or of more, irangelda_write then gives the same answer, and the words, as long as state and grants stay as they are. Any
+ * other reason is irangelda_write's, at the same place, whatever the room. No buffer is changed.
  *
  *   state, state_len    looked at: 808 bytes.
  *   grants, grants_len  looked at. 0 bytes is no grants.
@@ -163,8 +163,8 @@ uint64_t irangelda_size(const uint8_t *state, size_t state_len,
 
 /*
  * Writes a state as a batch that takes the empty state to it and that irangelda_read accepts under the same grants. Reason 0: the
- * words stand in out, in its first place * 4 bytes. Any other reason: out is as it was. It is irangelda_size's, if that is not 0; else
- * 11, if out has fewer words than irangelda_size tells.
+ * words stand in out, in its first place * 4 bytes. Any other reason: out is as it was. It is irangelda_size's reason, if that is
+ * not 0; else it is 11, and out has fewer words than irangelda_size tells. Only 13 for the length of out goes before both.
  *
  *   state, state_len    looked at: 808 bytes.
  *   grants, grants_len  looked at. 0 bytes is no grants.
