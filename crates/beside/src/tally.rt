@@ -138,9 +138,8 @@ pub(super) fn check_write(desk: &mut Desk, bytes: usize) -> u64 {
     check(desk, WRITE, bytes)
 }
 
-// The words that the state needs, with a few bytes behind its buffers.
+// How many words the state needs, with none to three bytes more behind its buffers.
 pub(super) fn check_size(desk: &mut Desk) -> u64 {
-    copy(desk, STATE, BEFORE);
     let more = len(desk, GRANTS);
     check(desk, SIZE, more)
 }
