@@ -10,26 +10,26 @@ use Rattle.meaning.specs.declared.Found.{Found}
 use Rattle.meaning.specs.declared.Found.TheVariants.{At, Missing}
 use Rattle.meaning.specs.declared.Kind.{Kind}
 use Rattle.meaning.specs.declared.Kind.TheVariants.{Setting, Video}
-use Rattle.meaning.specs.Words.{count, offset, videoOffset}
-use Rattle.meaning.specs.Registers.{firstVideo, endVideo, cell, findVideo}
-use Rattle.meaning.specs.Batch.{offset3D}
+use Rattle.meaning.specs.Words.{count, offset, video_offset}
+use Rattle.meaning.specs.Registers.{first_video, end_video, cell, find_video}
+use Rattle.meaning.specs.Batch.{offset_3d}
 use Rattle.meaning.specs.Positions.{kind_of}
-use Rattle.meaning.specs.Reader.{unless, runIn, headerReason}
+use Rattle.meaning.specs.Reader.{unless, run_in, header_reason}
 use Rattle.meaning.proofs.Packets.{never_both}
-use Rattle.meaning.proofs.Stretches.{kind-3D, kind-video}
-use Rattle.registers.proofs.Names.{named-video}
+use Rattle.meaning.proofs.Stretches.{kind_3d, kind_video}
+use Rattle.registers.proofs.Names.{named_video}
 use Rattle.headers.specs.Told.{Runs}
 
 -- no word is both a setting and one of a run
-kinds-apart : {k : Kind} {o : VideoOffset} → k ≡ Setting → k ≡ Video o → ⊥
-kinds-apart e f = let z : ◌≡◌ {A = ℕ} 0 1 = cc in omega arith
+kinds_apart : {k : Kind} {o : VideoOffset} → k ≡ Setting → k ≡ Video o → ⊥
+kinds_apart e f = let z : ◌≡◌ {A = ℕ} 0 1 = cc in omega arith
 
 -- a run is bound for the offset of its header
-pub run-offset : (h : ℕ) {o : VideoOffset} → kind_of h ≡ Video o → videoOffset h ≡ o
-run-offset h e =
-    elim (ℕ_discrete (offset h) offset3D) [
-      | yes z ↦ absurd (kinds-apart (kind-3D h refl z) e)
-      | no n ↦ let own = kind-video h refl n in cc
+pub run_offset : (h : ℕ) {o : VideoOffset} → kind_of h ≡ Video o → video_offset h ≡ o
+run_offset h e =
+    elim (ℕ_discrete (offset h) offset_3d) [
+      | yes z ↦ absurd (kinds_apart (kind_3d h refl z) e)
+      | no n ↦ let own = kind_video h refl n in cc
     ]
 
 -- ---- the header of a run of one word
@@ -39,30 +39,30 @@ abbrev pub single : ℕ → ℕ
 single o = 0x10000 + o
 
 -- where the offset is a video register's, nothing speaks against such a header, and it opens a run
-opens-run : (h : ℕ) → count h ≡ 1 → {c : Cell} → findVideo (videoOffset h) ≡ At c → (headerReason h ≡ 0) × (kind_of h ≡ Video (videoOffset h))
-unfolding headerReason unless runIn kind_of
-opens-run h one e = let other = never_both (offset h) (rw e tt) in (rw (other, one, e), rw other)
+opens_run : (h : ℕ) → count h ≡ 1 → {c : Cell} → find_video (video_offset h) ≡ At c → (header_reason h ≡ 0) × (kind_of h ≡ Video (video_offset h))
+unfolding header_reason unless run_in kind_of
+opens_run h one e = let other = never_both (offset h) (rw e tt) in (rw (other, one, e), rw other)
 
-none-at : (f : Found) → ((c : Cell) → f ≡ At c → ⊥) → f ≡ Missing
-none-at (At c) out = absurd (out c refl)
-none-at Missing out = refl
+none_at : (f : Found) → ((c : Cell) → f ≡ At c → ⊥) → f ≡ Missing
+none_at (At c) out = absurd (out c refl)
+none_at Missing out = refl
 
 module _ (u : ℕ) {o : ℕ} (e : o ≡ offset u) where
   one_word : count (single o) ≡ 1
   unfolding count offset
   one_word = omega arith
 
-  same-offset : videoOffset (single o) ≡ videoOffset u
+  same_offset : video_offset (single o) ≡ video_offset u
   unfolding offset
-  same-offset = ap (λ (x : ℕ). record { 0 = x }) (omega arith)
+  same_offset = ap (λ (x : ℕ). record { 0 = x }) (omega arith)
 
   -- one that is refused has no video register's offset,
-  pub none-refused : {r : ℕ} → headerReason (single o) ≡ r → (r ≡ 0 → ⊥) → findVideo (videoOffset u) ≡ Missing
-  none-refused q n = rw (← same-offset) (none-at _ (λ c f. n (sym q ∙ (opens-run (single o) one_word f).0)))
+  pub none_refused : {r : ℕ} → header_reason (single o) ≡ r → (r ≡ 0 → ⊥) → find_video (video_offset u) ≡ Missing
+  none_refused q n = rw (← same_offset) (none_at _ (λ c f. n (sym q ∙ (opens_run (single o) one_word f).0)))
 
   -- nor has one that opens a setting
-  pub none-setting : kind_of (single o) ≡ Setting → findVideo (videoOffset u) ≡ Missing
-  none-setting k = rw (← same-offset) (none-at _ (λ c f. kinds-apart k (opens-run (single o) one_word f).1))
+  pub none_setting : kind_of (single o) ≡ Setting → find_video (video_offset u) ≡ Missing
+  none_setting k = rw (← same_offset) (none_at _ (λ c f. kinds_apart k (opens_run (single o) one_word f).1))
 
   module _ {c i m : ℕ} (run : Runs (single o) c i m) where
     -- one that opens a run starts with a register of the row,
@@ -70,7 +70,7 @@ module _ (u : ℕ) {o : ℕ} (e : o ≡ offset u) where
     in_row = omega (arith, run.row, one_word)
 
     -- and that register is found at the offset
-    pub found_at : firstVideo ≤ c → c + m ≤ endVideo → findVideo (videoOffset u) ≡ At (cell (c + i))
+    pub found_at : first_video ≤ c → c + m ≤ end_video → find_video (video_offset u) ≡ At (cell (c + i))
     found_at low high =
         let inside = in_row in
-        rw (← same-offset, run-offset (single o) run.kind) (named-video (c + i) (omega arith) (omega arith))
+        rw (← same_offset, run_offset (single o) run.kind) (named_video (c + i) (omega arith) (omega arith))

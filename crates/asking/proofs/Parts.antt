@@ -4,24 +4,24 @@ use mathlib.Core.Path.{◌≡◌}
 use mathlib.Core.List.{List}
 use Prim.Native.Nat.{ℕ, ◌+◌, min}
 use lib.ListN.{get_or}
-use Rattle.meaning.specs.Grants.{Terms, mostGrants}
+use Rattle.meaning.specs.Grants.{Terms, most_grants}
 use Rattle.grants.specs.declared.Part.{Part}
 use Rattle.grants.specs.Kept.{Granting, Keeps}
 use Rattle.rows_video.specs.Scalers.{Scaler, first, second}
-use Rattle.asking.specs.Asked.{partIn, capped}
+use Rattle.asking.specs.Asked.{part_in, capped}
 
 -- from where it begins and where it ends
-pub part-is : (bounds : List ℕ) (role : ℕ) {from to : ℕ} → from ≡ get_or bounds role 0 → to ≡ min (get_or bounds (4 + role) 0) mostGrants → record { from = from; to = to } ≡ partIn bounds role
-part-is bounds role e f = rw (e, f)
+pub part_is : (bounds : List ℕ) (role : ℕ) {from to : ℕ} → from ≡ get_or bounds role 0 → to ≡ min (get_or bounds (4 + role) 0) most_grants → record { from = from; to = to } ≡ part_in bounds role
+part_is bounds role e f = rw (e, f)
 
 module _ (g : Terms) (starts lasts bounds : List ℕ) (k : Keeps g starts lasts (capped bounds)) {part : Part} where
   -- the target's grants are kept in that role's part,
-  pub target-part : part ≡ partIn bounds 1 → Granting g 1 starts lasts part
+  pub target_part : part ≡ part_in bounds 1 → Granting g 1 starts lasts part
   unfolding capped
-  target-part e = rw e k.targets
+  target_part e = rw e k.targets
 
   -- and so are a scaler's
-  pub scaler-part : {c role : ℕ} → Scaler c role → part ≡ partIn bounds role → Granting g role starts lasts part
+  pub scaler_part : {c role : ℕ} → Scaler c role → part ≡ part_in bounds role → Granting g role starts lasts part
   unfolding capped
-  scaler-part first e = rw e k.firsts
-  scaler-part second e = rw e k.seconds
+  scaler_part first e = rw e k.firsts
+  scaler_part second e = rw e k.seconds

@@ -11,7 +11,7 @@ use denote.Enum.Declared.{tag_of}
 use types.Run.{OneOf}
 use Rattle.meaning.specs.declared.Kind.{Kind}
 use Rattle.meaning.specs.declared.Kind.TheVariants.{Setting, Parameter, Video}
-use Rattle.meaning.specs.Words.{videoOffset}
+use Rattle.meaning.specs.Words.{video_offset}
 use Rattle.meaning.specs.Grants.{Terms}
 use Rattle.meaning.specs.Batch.{allowed}
 use Rattle.headers.specs.declared.Group.{Group}
@@ -21,7 +21,7 @@ use Rattle.headers.specs.Told.{Leads, Names}
 use Rattle.headers.specs.contracts.Group.{the_type}
 use Rattle.headers.proofs.Groups.{names}
 use Rattle.asking.specs.declared.Asked.{Asked}
-use Rattle.asking.specs.Asked.{kindFrom, askedIn}
+use Rattle.asking.specs.Asked.{kind_from, asked_in}
 
 -- ---- the group of a number
 
@@ -40,20 +40,20 @@ module _ (s : ℕ) {G : Group} (e : G ≡ group_of s) where
 
 module _ (u : ℕ) where
   -- under a setting that is allowed stands a parameter,
-  pub from-setting : allowed u ≡ true → kindFrom u ≡ Parameter u
-  unfolding kindFrom
-  from-setting e = rw e
+  pub from_setting : allowed u ≡ true → kind_from u ≡ Parameter u
+  unfolding kind_from
+  from_setting e = rw e
 
   -- under 0 a setting,
-  pub from_zero : allowed u ≡ false → u ≡ 0 → kindFrom u ≡ Setting
-  unfolding kindFrom
+  pub from_zero : allowed u ≡ false → u ≡ 0 → kind_from u ≡ Setting
+  unfolding kind_from
   from_zero e z = rw (e, eq-eqb u 0 z)
 
   -- and under any other number a word for a video register
-  pub from-offset : allowed u ≡ false → (u ≡ 0 → ⊥) → kindFrom u ≡ Video (videoOffset u)
-  unfolding kindFrom
-  from-offset e n = rw (e, ne_eqb u 0 n)
+  pub from_offset : allowed u ≡ false → (u ≡ 0 → ⊥) → kind_from u ≡ Video (video_offset u)
+  unfolding kind_from
+  from_offset e n = rw (e, ne_eqb u 0 n)
 
 -- a word is told the same at the same position
-pub at_position : (g : Terms) (w : ℕ) {have kind : Kind} {j k : ℕ} {a : Asked} → have ≡ kind → j ≡ k → a ≡ askedIn g kind k w → a ≡ askedIn g have j w
+pub at_position : (g : Terms) (w : ℕ) {have kind : Kind} {j k : ℕ} {a : Asked} → have ≡ kind → j ≡ k → a ≡ asked_in g kind k w → a ≡ asked_in g have j w
 at_position g w e f h = rw (e, f) h

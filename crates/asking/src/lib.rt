@@ -2,11 +2,11 @@
 ghost use Rattle.std.specs.Prelude.{◌≡◌, suc, ◌≤◌, ◌<◌, ◌^◌};
 ghost use Rattle.meaning.specs.declared.Kind.{Kind};
 ghost use Rattle.meaning.specs.declared.Kind.TheVariants as kinds;
-ghost use Rattle.meaning.specs.Words.{videoOffset};
-ghost use Rattle.meaning.specs.Grants.{Terms, mostGrants};
+ghost use Rattle.meaning.specs.Words.{video_offset};
+ghost use Rattle.meaning.specs.Grants.{Terms, most_grants};
 ghost use Rattle.grants.specs.Kept.{Granting, Keeps};
 ghost use Rattle.headers.specs.Told.{Leads};
-ghost use Rattle.asking.specs.Asked.{kindFrom, partIn, capped, stopped, takenAs, movedOn, boundFor, askedIn};
+ghost use Rattle.asking.specs.Asked.{kind_from, part_in, capped, stopped, taken_as, moved_on, bound_for, asked_in};
 
 use grants::{BOUNDS, Numbers, Part, Spans};
 use headers::{Group, Header};
@@ -37,8 +37,8 @@ fn wide(byte: u8) -> usize
 // The part of a role. It ends where the room does, whatever the bytes are.
 pub fn part_of(bounds: &ByteBounds, role: usize) -> Part
     requires role { role < 4 }
-    ensures part { result ≡ partIn bounds.now role }
-    ensures inside { result.to ≤ mostGrants }
+    ensures part { result ≡ part_in bounds.now role }
+    ensures inside { result.to ≤ most_grants }
 {
     let from = wide(bounds[role]);
     let to = wide(bounds[4 + role]);
@@ -66,7 +66,7 @@ fn refused(reason: u32) -> Asked
 
 // A word that is taken.
 fn taken(left: u32, under: u32, cell: Cell, value: u32) -> Asked
-    ensures taken { result ≡ takenAs left under cell value }
+    ensures taken { result ≡ taken_as left under cell value }
 {
     Asked {
         reason: SUCCESS,
@@ -79,14 +79,14 @@ fn taken(left: u32, under: u32, cell: Cell, value: u32) -> Asked
 
 // One that writes nothing.
 fn moved_on(left: u32, under: u32) -> Asked
-    ensures moved { result ≡ movedOn left under }
+    ensures moved { result ≡ moved_on left under }
 {
     taken(left, under, Cell(CELLS), 0)
 }
 
 // A header.
 fn at_header(word: u32) -> Asked
-    ensures asked { (g : Terms) (kind : Kind) → result ≡ askedIn g kind 0 word }
+    ensures asked { (g : Terms) (kind : Kind) → result ≡ asked_in g kind 0 word }
 {
     let left = fields::count(word);
     let offset = fields::offset(word);
@@ -101,7 +101,7 @@ fn at_header(word: u32) -> Asked
 
 // A setting, with so many words behind it.
 fn at_setting(word: u32, left: u32) -> Asked
-    ensures asked { (g : Terms) → result ≡ askedIn g kinds.Setting (suc left) word }
+    ensures asked { (g : Terms) → result ≡ asked_in g kinds.Setting (suc left) word }
 {
     let group = headers::group_of(word);
     if let Group::Nothing = group {
@@ -122,8 +122,8 @@ fn at_parameter(
     part: Part,
 ) -> Asked
     requires group { Leads setting group }
-    requires inside { part.to ≤ mostGrants }
-    ensures asked { (g : Terms) → Granting g 1 starts.now lasts.now part → result ≡ askedIn g (kinds.Parameter setting) (suc left) word }
+    requires inside { part.to ≤ most_grants }
+    ensures asked { (g : Terms) → Granting g 1 starts.now lasts.now part → result ≡ asked_in g (kinds.Parameter setting) (suc left) word }
 {
     let value = fields::data(word);
     let judged = judging::judge_parameter(
@@ -145,7 +145,7 @@ fn at_parameter(
 // A word for the video register of a cell, whose reason is known.
 fn for_video(reason: u32, offset: u32, word: u32, left: u32, cell: Cell) -> Asked
     requires offset { offset < 2 ^ 16 }
-    ensures told { result ≡ boundFor reason offset word left cell }
+    ensures told { result ≡ bound_for reason offset word left cell }
 {
     if reason != 0 {
         return refused(reason);
@@ -163,7 +163,7 @@ fn at_video(
     numbers: &Numbers,
     bounds: &ByteBounds,
 ) -> Asked
-    ensures asked { (g : Terms) → Keeps g starts.now lasts.now (capped bounds.now) → result ≡ askedIn g (kinds.Video (videoOffset under)) (suc left) word }
+    ensures asked { (g : Terms) → Keeps g starts.now lasts.now (capped bounds.now) → result ≡ asked_in g (kinds.Video (video_offset under)) (suc left) word }
 {
     let offset = fields::offset(under);
     let opened = headers::header_of(0x10000 + offset);
@@ -202,7 +202,7 @@ pub fn ask<'a>(
     numbers: &'a Numbers,
     bounds: &'a ByteBounds,
 ) -> Asked
-    ensures asked { (g : Terms) → Keeps g starts.now lasts.now (capped bounds.now) → result ≡ askedIn g (kindFrom under) left word }
+    ensures asked { (g : Terms) → Keeps g starts.now lasts.now (capped bounds.now) → result ≡ asked_in g (kind_from under) left word }
 {
     if left == 0 {
         return at_header(word);

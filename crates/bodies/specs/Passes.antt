@@ -4,10 +4,10 @@ use Rattle.std.specs.Prelude.{List, [], ◌∷◌, ℕ, zero, suc, ◌/◌, ◌�
 use Rattle.meaning.specs.declared.Kind.{Kind}
 use Rattle.meaning.specs.declared.Answer.{Answer}
 use Rattle.meaning.specs.Grants.{Terms}
-use Rattle.meaning.specs.State.{applyAll, writeTo}
+use Rattle.meaning.specs.State.{apply_all, write_to}
 use Rattle.meaning.specs.Positions.{after, goes, carries}
 use Rattle.meaning.specs.Answers.{success, answer}
-use Rattle.meaning.specs.Reader.{wordReason}
+use Rattle.meaning.specs.Reader.{word_reason}
 
 -- places of a batch in bytes: from a first one to before an end
 abbrev pub Places : ℕ → ℕ → List ℕ → Type 0
@@ -33,9 +33,9 @@ or_else (suc r) i st more = passed (suc r) i st
 
 -- the state after a word of a packet's body
 abbrev pub applied : Kind → ℕ → List ℕ → List ℕ
-applied kind w st = applyAll st (writeTo (goes kind w) (carries kind w))
+applied kind w st = apply_all st (write_to (goes kind w) (carries kind w))
 
 -- words of one packet's body, the first at place i: the first reason and its place, or 0 and the place after them
-unfoldable pub bodyFrom : Terms → ℕ → Kind → List ℕ → List ℕ → Passed
-bodyFrom g i kind [] st = passed success i st
-bodyFrom g i kind (w ∷ ws) st = or_else (wordReason g kind w) i st (bodyFrom g (suc i) (after kind w) ws (applied kind w st))
+unfoldable pub body_from : Terms → ℕ → Kind → List ℕ → List ℕ → Passed
+body_from g i kind [] st = passed success i st
+body_from g i kind (w ∷ ws) st = or_else (word_reason g kind w) i st (body_from g (suc i) (after kind w) ws (applied kind w st))

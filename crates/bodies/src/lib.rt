@@ -5,15 +5,15 @@ ghost use Rattle.std.specs.Prelude.{◌≡◌, ℕ, ◌+◌, ◌-◌, ◌<◌, �
 ghost use Rattle.std.proofs.Math.Seq.{slice};
 ghost use Rattle.meaning.specs.declared.Kind.TheVariants as kinds;
 ghost use Rattle.meaning.specs.Words.{words_of};
-ghost use Rattle.meaning.specs.Registers.{cells, firstVideo, cell};
-ghost use Rattle.meaning.specs.Grants.{Terms, mostGrants};
+ghost use Rattle.meaning.specs.Registers.{cells, first_video, cell};
+ghost use Rattle.meaning.specs.Grants.{Terms, most_grants};
 ghost use Rattle.meaning.specs.State as state_of;
 ghost use Rattle.meaning.specs.Answers.{success, answer};
 ghost use Rattle.registers.specs.Names.{offset_of};
 ghost use Rattle.grants.specs.Kept.{Granting};
 ghost use Rattle.rows_video.specs.Scalers.{Scaler, IsScaler};
 ghost use Rattle.headers.specs.Told.{IsGroup, Leads};
-ghost use Rattle.bodies.specs.Passes.{answer_of, bodyFrom, Places};
+ghost use Rattle.bodies.specs.Passes.{answer_of, body_from, Places};
 
 use grants::{Numbers, Part, Spans};
 use headers::Group;
@@ -53,9 +53,9 @@ pub fn take_parameters(
 ) -> Answer
     requires places { Places first end batch.now }
     requires group { IsGroup group }
-    requires inside { part.to ≤ mostGrants }
-    ensures answer { (g : Terms) (s : ℕ) → Leads s group → Granting g 1 starts.now lasts.now part → result ≡ answer_of (bodyFrom g first (kinds.Parameter s) (slice first end (words_of batch.now)) state.old) }
-    ensures state { (g : Terms) (s : ℕ) → Leads s group → Granting g 1 starts.now lasts.now part → state.new ≡ (bodyFrom g first (kinds.Parameter s) (slice first end (words_of batch.now)) state.old).state }
+    requires inside { part.to ≤ most_grants }
+    ensures answer { (g : Terms) (s : ℕ) → Leads s group → Granting g 1 starts.now lasts.now part → result ≡ answer_of (body_from g first (kinds.Parameter s) (slice first end (words_of batch.now)) state.old) }
+    ensures state { (g : Terms) (s : ℕ) → Leads s group → Granting g 1 starts.now lasts.now part → state.new ≡ (body_from g first (kinds.Parameter s) (slice first end (words_of batch.now)) state.old).state }
 {
     for at in first..end {
         let w = words::word(batch, at);
@@ -90,8 +90,8 @@ pub fn take_overlay(
 ) -> Answer
     requires places { Places first end batch.now }
     requires row { index + (end - first) ≤ 3 }
-    ensures answer { (g : Terms) → result ≡ answer_of (bodyFrom g first (kinds.Video (offset_of (cell (firstVideo + index)))) (slice first end (words_of batch.now)) state.old) }
-    ensures state { (g : Terms) → state.new ≡ (bodyFrom g first (kinds.Video (offset_of (cell (firstVideo + index)))) (slice first end (words_of batch.now)) state.old).state }
+    ensures answer { (g : Terms) → result ≡ answer_of (body_from g first (kinds.Video (offset_of (cell (first_video + index)))) (slice first end (words_of batch.now)) state.old) }
+    ensures state { (g : Terms) → state.new ≡ (body_from g first (kinds.Video (offset_of (cell (first_video + index)))) (slice first end (words_of batch.now)) state.old).state }
 {
     let mut k = index;
     let mut at = first;
@@ -124,9 +124,9 @@ pub fn take_scaler(
     requires places { Places first end batch.now }
     requires row { index + (end - first) ≤ 7 }
     requires scaler { IsScaler base.0 }
-    requires inside { part.to ≤ mostGrants }
-    ensures answer { (g : Terms) (role : ℕ) → Scaler base.0 role → Granting g role starts.now lasts.now part → result ≡ answer_of (bodyFrom g first (kinds.Video (offset_of (cell (base.0 + index)))) (slice first end (words_of batch.now)) state.old) }
-    ensures state { (g : Terms) (role : ℕ) → Scaler base.0 role → Granting g role starts.now lasts.now part → state.new ≡ (bodyFrom g first (kinds.Video (offset_of (cell (base.0 + index)))) (slice first end (words_of batch.now)) state.old).state }
+    requires inside { part.to ≤ most_grants }
+    ensures answer { (g : Terms) (role : ℕ) → Scaler base.0 role → Granting g role starts.now lasts.now part → result ≡ answer_of (body_from g first (kinds.Video (offset_of (cell (base.0 + index)))) (slice first end (words_of batch.now)) state.old) }
+    ensures state { (g : Terms) (role : ℕ) → Scaler base.0 role → Granting g role starts.now lasts.now part → state.new ≡ (body_from g first (kinds.Video (offset_of (cell (base.0 + index)))) (slice first end (words_of batch.now)) state.old).state }
 {
     let own = base.0;
     let mut k = index;

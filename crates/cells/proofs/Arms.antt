@@ -58,8 +58,8 @@ numbered rows.DestinationStride = refl
 numbered rows.SourceStride = refl
 
 -- a test that passes at the row of each key passes at the row
-pub of-rest : (test : Row → Bool) (ks : List ℕ) → T (every (λ n. test (row_at n)) ks) → (row : Row) → OneOf ks (tag_of the_type row) → T (test row)
-of-rest test ks t row o = rw (numbered row) at (by_key (λ n. test (row_at n)) ks t (tag_of the_type row) o)
+pub of_rest : (test : Row → Bool) (ks : List ℕ) → T (every (λ n. test (row_at n)) ks) → (row : Row) → OneOf ks (tag_of the_type row) → T (test row)
+of_rest test ks t row o = rw (numbered row) at (by_key (λ n. test (row_at n)) ks t (tag_of the_type row) o)
 
 -- ---- widths
 

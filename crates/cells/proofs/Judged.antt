@@ -4,9 +4,9 @@ use mathlib.Core.Path.{◌≡◌, sym, subst}
 use mathlib.Core.List.{List}
 use Prim.Native.Nat.{ℕ, ◌+◌, ◌*◌, ◌≤◌, ◌<◌}
 use native.Mathlib.Omega.{arith}
-use Rattle.meaning.specs.Registers.{cell, registerAt}
+use Rattle.meaning.specs.Registers.{cell, register_at}
 use Rattle.meaning.specs.Grants.{Terms}
-use Rattle.meaning.specs.Reader.{valueReason}
+use Rattle.meaning.specs.Reader.{value_reason}
 use Rattle.grants.specs.declared.Part.{Part}
 use Rattle.grants.specs.Kept.{Granting}
 use Rattle.rows_video.specs.Scalers.{Scaler, first, second}
@@ -16,14 +16,14 @@ use Rattle.cells.specs.Rows.{RowOf}
 use Rattle.cells.specs.Rows as kinds
 
 -- a scaler's addresses have a role
-pub has-role : {c role : ℕ} → Scaler c role → role ≡ 0 → ⊥
-has-role first e = omega arith
-has-role second e = omega arith
+pub has_role : {c role : ℕ} → Scaler c role → role ≡ 0 → ⊥
+has_role first e = omega arith
+has_role second e = omega arith
 
 module _ (starts lasts : List ℕ) (part : Part) (value reason : ℕ) where
   -- the reason is that of a cell,
   abbrev For : Terms → ℕ → Type 0
-  For g c = reason ≡ valueReason g (registerAt (cell c)) value
+  For g c = reason ≡ value_reason g (register_at (cell c)) value
 
   -- where the part covers what the role is granted
   abbrev Given : Terms → ℕ → Type 0
@@ -52,8 +52,8 @@ module _ (starts lasts : List ℕ) (part : Part) (value reason : ℕ) where
 
   -- at each of its cells
   pub judged : {row : Row} → Tells row → (g : Terms) (c role : ℕ) → RowOf row c role → ((role ≡ 0 → ⊥) → Given g role) → For g c
-  judged t g _ _ kinds.alpha-constants given = t g
-  judged t g _ _ kinds.target-address given = t g (given (λ e. omega arith))
+  judged t g _ _ kinds.alpha_constants_row given = t g
+  judged t g _ _ kinds.target_address given = t g (given (λ e. omega arith))
   judged t g _ _ kinds.location given = t g
   judged t g _ _ kinds.format given = t g
   judged t g _ _ (kinds.stage c l h) given = t g c l h
@@ -61,15 +61,15 @@ module _ (starts lasts : List ℕ) (part : Part) (value reason : ℕ) where
   judged t g _ _ (kinds.filters n h) given = t g n h
   judged t g _ _ (kinds.mapping n h) given = t g n h
   judged t g _ _ (kinds.overlay c l h) given = t g c l h
-  judged t g _ _ kinds.alpha-select given = t g
+  judged t g _ _ kinds.alpha_select_row given = t g
   judged t g _ _ (kinds.deinterlace c r s) given = t g c r s
-  judged t g _ _ (kinds.sub-picture c r s) given = t g c r s
-  judged t g _ _ (kinds.first-address c r s) given = t g c r s (given (has-role s))
-  judged t g _ _ (kinds.second-address c r s) given = t.0 g c r s (given (has-role s))
-  judged t g _ _ (kinds.destination-stride c r s) given = t g c r s
-  judged t g _ _ (kinds.source-stride c r s) given = t g c r s
-  judged t g _ _ (kinds.third-address c r s) given = t.1 g c r s (given (has-role s))
+  judged t g _ _ (kinds.sub_picture c r s) given = t g c r s
+  judged t g _ _ (kinds.first_address c r s) given = t g c r s (given (has_role s))
+  judged t g _ _ (kinds.second_address c r s) given = t.0 g c r s (given (has_role s))
+  judged t g _ _ (kinds.destination_stride c r s) given = t g c r s
+  judged t g _ _ (kinds.source_stride c r s) given = t g c r s
+  judged t g _ _ (kinds.third_address c r s) given = t.1 g c r s (given (has_role s))
 
   -- in an arm, where the row is known by an equation
-  pub in-arm : {row own : Row} → row ≡ own → Tells own → (g : Terms) (c role : ℕ) → RowOf row c role → ((role ≡ 0 → ⊥) → Given g role) → For g c
-  in-arm e t = judged (subst Tells (sym e) t)
+  pub in_arm : {row own : Row} → row ≡ own → Tells own → (g : Terms) (c role : ℕ) → RowOf row c role → ((role ≡ 0 → ⊥) → Given g role) → For g c
+  in_arm e t = judged (subst Tells (sym e) t)

@@ -1,13 +1,13 @@
 // What is asked of a cell of a state: that it is unmarked, or holds a value that its register may.
 ghost use Rattle.std.specs.Prelude.{◌≡◌, ℕ, ◌≤◌, ◌<◌, ◌^◌, T, ltb, length};
 ghost use Rattle.meaning.specs.Words.{words_of};
-ghost use Rattle.meaning.specs.Registers.{cells, cell, registerAt};
-ghost use Rattle.meaning.specs.Grants.{Terms, mostGrants};
-ghost use Rattle.meaning.specs.State.{stateWords, wellFormed, value_at, markAt};
-ghost use Rattle.meaning.specs.Reader.{valueReason};
+ghost use Rattle.meaning.specs.Registers.{cells, cell, register_at};
+ghost use Rattle.meaning.specs.Grants.{Terms, most_grants};
+ghost use Rattle.meaning.specs.State.{state_words, well_formed, value_at, mark_at};
+ghost use Rattle.meaning.specs.Reader.{value_reason};
 ghost use Rattle.meaning.specs.Writer.{writable};
 ghost use Rattle.grants.specs.Kept.{Granting};
-ghost use Rattle.cells.specs.Rows.{RowOf, IsRow, takesZero, width_of, vacantIn};
+ghost use Rattle.cells.specs.Rows.{RowOf, IsRow, takes_zero, width_of, vacant_in};
 
 use grants::{Numbers, Part, Spans};
 use meaning::Cell;
@@ -45,8 +45,8 @@ fn row_reason(
     part: Part,
 ) -> u32
     requires narrow { value < 2 ^ width_of row }
-    requires inside { part.to ≤ mostGrants }
-    ensures reason { (g : Terms) (c role : ℕ) → RowOf row c role → ((role ≡ 0 → ⊥) → Granting g role starts.now lasts.now part) → result ≡ valueReason g (registerAt (cell c)) value }
+    requires inside { part.to ≤ most_grants }
+    ensures reason { (g : Terms) (c role : ℕ) → RowOf row c role → ((role ≡ 0 → ⊥) → Granting g role starts.now lasts.now part) → result ≡ value_reason g (register_at (cell c)) value }
 {
     match row {
         Row::AlphaConstants => rows_3d::alpha_constants_reason(value),
@@ -70,7 +70,7 @@ fn row_reason(
 
 // Nothing speaks against 0 in a register of the row, whatever is granted.
 fn takes_zero(row: Row) -> bool
-    ensures zero { result ≡ takesZero row }
+    ensures zero { result ≡ takes_zero row }
 {
     match row {
         Row::TargetAddress => false,
@@ -100,9 +100,9 @@ fn narrow(row: Row, value: u32) -> bool
 
 // A value that needs no further look: 0 in a register that takes it, or in a cell that is unmarked. Most are 0.
 fn vacant(state: &[u8], cell: Cell, row: Row, value: u32) -> bool
-    requires whole { length (words_of state.now) ≡ stateWords }
+    requires whole { length (words_of state.now) ≡ state_words }
     requires inside { cell.0 < cells }
-    ensures vacant { result ≡ vacantIn row value (markAt (words_of state.now) cell) }
+    ensures vacant { result ≡ vacant_in row value (mark_at (words_of state.now) cell) }
 {
     if value != 0 {
         return false;
@@ -124,9 +124,9 @@ pub fn fine(
     numbers: &Numbers,
     part: Part,
 ) -> bool
-    requires formed { T (wellFormed (words_of state.now)) }
+    requires formed { T (well_formed (words_of state.now)) }
     requires row { IsRow row cell.0 }
-    requires inside { part.to ≤ mostGrants }
+    requires inside { part.to ≤ most_grants }
     ensures fine { (g : Terms) (role : ℕ) → RowOf row cell.0 role → ((role ≡ 0 → ⊥) → Granting g role starts.now lasts.now part) → result ≡ writable g (words_of state.now) cell }
 {
     let value = states::value(state, cell);

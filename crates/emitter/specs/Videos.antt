@@ -4,9 +4,9 @@ use Rattle.std.specs.Prelude.{List, [], ◌∷◌, ℕ}
 use Rattle.laws.specs.Lists.{join}
 use Rattle.meaning.specs.Registers.{cell}
 use Rattle.meaning.specs.State.{value_at, marked}
-use Rattle.meaning.specs.Writer.{headerWord, ifSo}
+use Rattle.meaning.specs.Writer.{header_word, if_so}
 use Rattle.registers.specs.Names.{offset_of}
 
 -- the packet of a video cell, if it is marked
-unfoldable pub videoWords : List ℕ → ℕ → List ℕ
-videoWords st c = join (ifSo (marked st (cell c)) (headerWord 1 (offset_of (cell c)).0 ∷ value_at st (cell c) ∷ []) [])
+unfoldable pub video_words : List ℕ → ℕ → List ℕ
+video_words st c = join (if_so (marked st (cell c)) (header_word 1 (offset_of (cell c)).0 ∷ value_at st (cell c) ∷ []) [])

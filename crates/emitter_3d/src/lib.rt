@@ -1,23 +1,23 @@
 // The words of the 3D groups of a state, in cell order.
 ghost use Rattle.std.specs.Prelude.{◌≡◌, ◌+◌, ◌*◌, ◌/◌, ◌<◌, ◌≤◌, ◌^◌, length};
 ghost use Rattle.meaning.specs.Words.{words_of};
-ghost use Rattle.meaning.specs.Registers.{cells, firstVideo, sections3D};
-ghost use Rattle.meaning.specs.State.{stateWords, value_at, markAt};
-ghost use Rattle.words.specs.Stores.{putWords};
-ghost use Rattle.emitter_3d.specs.Emitted.{parameterOf, parametersFrom, targetWords, seriesFrom, many, wordsOfSections, Room, Narrow};
-ghost use Rattle.emitter_3d.specs.Closed.{closedEnd, closedWords};
+ghost use Rattle.meaning.specs.Registers.{cells, first_video, sections_3d};
+ghost use Rattle.meaning.specs.State.{state_words, value_at, mark_at};
+ghost use Rattle.words.specs.Stores.{put_words};
+ghost use Rattle.emitter_3d.specs.Emitted.{parameter_of, parameters_from, target_words, series_from, many, words_of_sections, Room, Narrow};
+ghost use Rattle.emitter_3d.specs.Closed.{closed_end, closed_words};
 
 use meaning::{Cell, SubAddress};
 
 // The parameter of a cell, if it is marked. The answer is the place after it; the same below for more than one word.
 fn emit_parameter(state: &[u8], cell: Cell, address: SubAddress, out: &mut [u8], at: usize) -> usize
-    requires whole { length (words_of state.now) ≡ stateWords }
+    requires whole { length (words_of state.now) ≡ state_words }
     requires inside { cell.0 < cells }
     requires short { address.0 < 256 }
-    requires narrow { 0 < markAt (words_of state.now) cell → value_at (words_of state.now) cell < 2 ^ 24 }
-    requires room { Room out.old at (parameterOf (words_of state.now) cell address) }
-    ensures end { result ≡ at + length (parameterOf (words_of state.now) cell address) }
-    ensures words { out.new ≡ putWords out.old at (parameterOf (words_of state.now) cell address) }
+    requires narrow { 0 < mark_at (words_of state.now) cell → value_at (words_of state.now) cell < 2 ^ 24 }
+    requires room { Room out.old at (parameter_of (words_of state.now) cell address) }
+    ensures end { result ≡ at + length (parameter_of (words_of state.now) cell address) }
+    ensures words { out.new ≡ put_words out.old at (parameter_of (words_of state.now) cell address) }
 {
     if states::mark(state, cell) == 0 {
         return at;
@@ -35,13 +35,13 @@ fn emit_rows(
     out: &mut [u8],
     at: usize,
 ) -> usize
-    requires whole { length (words_of state.now) ≡ stateWords }
+    requires whole { length (words_of state.now) ≡ state_words }
     requires narrow { Narrow (words_of state.now) }
-    requires inside { first.0 + rows ≤ firstVideo }
+    requires inside { first.0 + rows ≤ first_video }
     requires short { low.0 + rows ≤ 256 }
-    requires room { Room out.old at (parametersFrom (words_of state.now) first.0 low.0 rows) }
-    ensures end { result ≡ at + length (parametersFrom (words_of state.now) first.0 low.0 rows) }
-    ensures words { out.new ≡ putWords out.old at (parametersFrom (words_of state.now) first.0 low.0 rows) }
+    requires room { Room out.old at (parameters_from (words_of state.now) first.0 low.0 rows) }
+    ensures end { result ≡ at + length (parameters_from (words_of state.now) first.0 low.0 rows) }
+    ensures words { out.new ≡ put_words out.old at (parameters_from (words_of state.now) first.0 low.0 rows) }
 {
     let cell = first.0;
     let address = low.0;
@@ -67,8 +67,8 @@ fn close_packet(out: &mut [u8], at: usize, end: usize, ty: u32, sub: u32) -> usi
     requires ty { ty < 256 }
     requires sub { sub < 256 }
     requires room { (end ≡ at + 2 → ⊥) → end ≤ length out.old / 4 }
-    ensures end { result ≡ closedEnd at end }
-    ensures words { out.new ≡ closedWords out.old at end ty sub }
+    ensures end { result ≡ closed_end at end }
+    ensures words { out.new ≡ closed_words out.old at end ty sub }
 {
     if end == at + 2 {
         return at;
@@ -80,11 +80,11 @@ fn close_packet(out: &mut [u8], at: usize, end: usize, ty: u32, sub: u32) -> usi
 
 // 01.00, if one of its cells is marked. The sub-address of its first row stands apart.
 fn emit_target(state: &[u8], out: &mut [u8]) -> usize
-    requires whole { length (words_of state.now) ≡ stateWords }
+    requires whole { length (words_of state.now) ≡ state_words }
     requires narrow { Narrow (words_of state.now) }
-    requires room { length (targetWords (words_of state.now)) ≤ length out.old / 4 }
-    ensures end { result ≡ length (targetWords (words_of state.now)) }
-    ensures words { out.new ≡ putWords out.old 0 (targetWords (words_of state.now)) }
+    requires room { length (target_words (words_of state.now)) ≤ length out.old / 4 }
+    ensures end { result ≡ length (target_words (words_of state.now)) }
+    ensures words { out.new ≡ put_words out.old 0 (target_words (words_of state.now)) }
 {
     let second = emit_parameter(state, Cell(0), SubAddress(0x3f), out, 2);
     let end = emit_rows(state, Cell(1), SubAddress(0x50), 3, out, second);
@@ -104,16 +104,16 @@ fn emit_series(
     start: usize,
     end: usize,
 ) -> usize
-    requires whole { length (words_of state.now) ≡ stateWords }
+    requires whole { length (words_of state.now) ≡ state_words }
     requires narrow { Narrow (words_of state.now) }
-    requires inside { first + rows * many ≤ firstVideo }
+    requires inside { first + rows * many ≤ first_video }
     requires few { rows ≤ 4 }
     requires short { low.0 + rows ≤ 256 }
     requires sub { sub + many ≤ 256 }
-    requires end { start + length (seriesFrom (words_of state.now) first rows low.0 sub 0 many) ≤ end }
+    requires end { start + length (series_from (words_of state.now) first rows low.0 sub 0 many) ≤ end }
     requires room { end ≤ length out.old / 4 }
-    ensures end { result ≡ start + length (seriesFrom (words_of state.now) first rows low.0 sub 0 many) }
-    ensures words { out.new ≡ putWords out.old start (seriesFrom (words_of state.now) first rows low.0 sub 0 many) }
+    ensures end { result ≡ start + length (series_from (words_of state.now) first rows low.0 sub 0 many) }
+    ensures words { out.new ≡ put_words out.old start (series_from (words_of state.now) first rows low.0 sub 0 many) }
 {
     let mut at = start;
     let mut n = 0;
@@ -130,11 +130,11 @@ fn emit_series(
 
 // The packets of all groups before the video cells, which end at `end`.
 pub fn emit_3d(state: &[u8], out: &mut [u8], end: usize)
-    requires whole { length (words_of state.now) ≡ stateWords }
+    requires whole { length (words_of state.now) ≡ state_words }
     requires narrow { Narrow (words_of state.now) }
-    requires end { end ≡ length (wordsOfSections (words_of state.now) sections3D) }
+    requires end { end ≡ length (words_of_sections (words_of state.now) sections_3d) }
     requires room { end ≤ length out.old / 4 }
-    ensures words { out.new ≡ putWords out.old 0 (wordsOfSections (words_of state.now) sections3D) }
+    ensures words { out.new ≡ put_words out.old 0 (words_of_sections (words_of state.now) sections_3d) }
 {
     let stages = emit_target(state, out);
     let samples = emit_series(state, 4, 2, SubAddress(0x50), 0x00, out, stages, end);

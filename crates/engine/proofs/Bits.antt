@@ -10,8 +10,8 @@ use lib.ListN.{length, get_or, length-map}
 use lib.Pow.{pow-lt}
 use Rattle.laws.specs.Lists.{from}
 use Rattle.meaning.specs.Registers.{cells, cell}
-use Rattle.meaning.specs.State.{isMark, markAt}
-use Rattle.engine.specs.Bits.{bit_of, marksOf, withMark, packed}
+use Rattle.meaning.specs.State.{is_mark, mark_at}
+use Rattle.engine.specs.Bits.{bit_of, marks_of, with_mark, packed}
 
 -- a bit that is shifted up stays inside its word
 pub one_shifted : (k : ℕ) → k < 32 → 1 * 2 ^ k % 4294967296 ≡ 2 ^ k
@@ -24,29 +24,29 @@ unfolding from
 length_from i zero = refl
 length_from i (suc n) = ap suc (length_from (suc i) n)
 
-mapped-from : (f : ℕ → ℕ) (i n k : ℕ) → k < n → get_or (map f (from i n)) k 0 ≡ f (i + k)
+mapped_from : (f : ℕ → ℕ) (i n k : ℕ) → k < n → get_or (map f (from i n)) k 0 ≡ f (i + k)
 unfolding from
-mapped-from f i zero k h = absurd (omega arith)
-mapped-from f i (suc n) zero h = let e : i ≡ i + 0 = omega arith in ap f e
-mapped-from f i (suc n) (suc k) h = let e : suc i + k ≡ i + suc k = omega arith in mapped-from f (suc i) n k (omega arith) ∙ ap f e
+mapped_from f i zero k h = absurd (omega arith)
+mapped_from f i (suc n) zero h = let e : i ≡ i + 0 = omega arith in ap f e
+mapped_from f i (suc n) (suc k) h = let e : suc i + k ≡ i + suc k = omega arith in mapped_from f (suc i) n k (omega arith) ∙ ap f e
 
-pub marks-length : (ms : List ℕ) → length (marksOf ms) ≡ cells
-unfolding marksOf
-marks-length ms = length-map (from 0 cells) (bit_of ms) ∙ length_from 0 cells
+pub marks_length : (ms : List ℕ) → length (marks_of ms) ≡ cells
+unfolding marks_of
+marks_length ms = length-map (from 0 cells) (bit_of ms) ∙ length_from 0 cells
 
-pub mark-at : (ms : List ℕ) (c : ℕ) → c < cells → get_or (marksOf ms) c 0 ≡ bit_of ms c
-unfolding marksOf
-mark-at ms c h = let e : 0 + c ≡ c = omega arith in mapped-from (bit_of ms) 0 cells c h ∙ ap (bit_of ms) e
+pub mark_at_lem : (ms : List ℕ) (c : ℕ) → c < cells → get_or (marks_of ms) c 0 ≡ bit_of ms c
+unfolding marks_of
+mark_at_lem ms c h = let e : 0 + c ≡ c = omega arith in mapped_from (bit_of ms) 0 cells c h ∙ ap (bit_of ms) e
 
 -- ---- the marks of a state
 
 -- a mark that is not 0 marks its cell
-pub is-marked : (m : ℕ) → m ≢ 0 → isMark m ≡ true
-is-marked zero n = absurd (n refl)
-is-marked (suc m) n = refl
+pub is_marked : (m : ℕ) → m ≢ 0 → is_mark m ≡ true
+is_marked zero n = absurd (n refl)
+is_marked (suc m) n = refl
 
 -- one more cell of a state looked at
-pub one-loaded : (st : List ℕ) (n : ℕ) (ms cur : List ℕ) {m : ℕ} {next : List ℕ} → m ≡ markAt st (cell n) → cur ≡ packed st n ms
-    → next ≡ cond (isMark m) (withMark cur n) cur → next ≡ packed st (n + 1) ms
+pub one_loaded : (st : List ℕ) (n : ℕ) (ms cur : List ℕ) {m : ℕ} {next : List ℕ} → m ≡ mark_at st (cell n) → cur ≡ packed st n ms
+    → next ≡ cond (is_mark m) (with_mark cur n) cur → next ≡ packed st (n + 1) ms
 unfolding packed
-one-loaded st n ms cur e inv f = let s : n + 1 ≡ suc n = omega arith in rw s (f ∙ rw (e, inv))
+one_loaded st n ms cur e inv f = let s : n + 1 ≡ suc n = omega arith in rw s (f ∙ rw (e, inv))

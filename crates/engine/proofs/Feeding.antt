@@ -11,54 +11,54 @@ use mir.Syntax.{w32, w64}
 use mir.Val.{Fits}
 use Rattle.meaning.specs.Registers.{cells}
 use Rattle.meaning.specs.Grants.{Terms}
-use Rattle.meaning.specs.Answers.{engineFull}
-use Rattle.meaning.specs.Engine.{mostFed}
+use Rattle.meaning.specs.Answers.{engine_full}
+use Rattle.meaning.specs.Engine.{most_fed}
 use Rattle.asking.specs.declared.Asked.{Asked}
-use Rattle.asking.specs.Asked.{kindFrom, askedIn}
+use Rattle.asking.specs.Asked.{kind_from, asked_in}
 use Rattle.engine.specs.declared.Engine.{Engine}
-use Rattle.engine.specs.Bits.{withMark}
-use Rattle.engine.specs.Kept.{refusedBy, takenBy, toldBy, unlessRefused, fedWith}
+use Rattle.engine.specs.Bits.{with_mark}
+use Rattle.engine.specs.Kept.{refused_by, taken_by, told_by, unless_refused, fed_with}
 
 -- the number of words fed, one more, and where a cell stands among the values, in bytes. Said here, away from all that is known of an engine,
 -- since that would be searched
-pub one_more : (n : ℕ) → n < mostFed → Fits w32 (n + 1)
+pub one_more : (n : ℕ) → n < most_fed → Fits w32 (n + 1)
 one_more n h = omega arith
 
-pub at-cell : (c : ℕ) → c < cells → Fits w64 (c * 4)
-at-cell c h = omega arith
+pub at_cell : (c : ℕ) → c < cells → Fits w64 (c * 4)
+at_cell c h = omega arith
 
-stays : (r : ℕ) (e next : Engine) → r ≢ 0 → e ≡ unlessRefused r e next
+stays : (r : ℕ) (e next : Engine) → r ≢ 0 → e ≡ unless_refused r e next
 stays zero e next n = absurd (n refl)
 stays (suc r) e next n = refl
 
-told-refused : (r : ℕ) (a : Asked) (e : Engine) → r ≢ 0 → refusedBy r e ≡ toldBy r a e
-told-refused zero a e n = absurd (n refl)
-told-refused (suc r) a e n = refl
+told_refused : (r : ℕ) (a : Asked) (e : Engine) → r ≢ 0 → refused_by r e ≡ told_by r a e
+told_refused zero a e n = absurd (n refl)
+told_refused (suc r) a e n = refl
 
 module _ (g : Terms) (e : Engine) (w : ℕ) where
   -- a refusal stands
-  pub fed-stays : e.reason ≢ 0 → e ≡ fedWith g e w
-  unfolding fedWith
-  fed-stays n = stays e.reason e _ n
+  pub fed_stays : e.reason ≢ 0 → e ≡ fed_with g e w
+  unfolding fed_with
+  fed_stays n = stays e.reason e _ n
 
   module _ (z : e.reason ≡ 0) where
     -- as many words were taken as there may be
-    pub fed-full : mostFed ≤ e.place → refusedBy engineFull e ≡ fedWith g e w
-    unfolding fedWith
-    fed-full h = rw (z, le-leb mostFed e.place h)
+    pub fed_full : most_fed ≤ e.place → refused_by engine_full e ≡ fed_with g e w
+    unfolding fed_with
+    fed_full h = rw (z, le-leb most_fed e.place h)
 
-    module _ (few : e.place < mostFed) {a : Asked} (told : a ≡ askedIn g (kindFrom e.under) e.left w) where
-      fed-on : toldBy a.reason a e ≡ fedWith g e w
-      unfolding fedWith
-      fed-on = rw (z, lt-leb mostFed e.place few, sym told)
+    module _ (few : e.place < most_fed) {a : Asked} (told : a ≡ asked_in g (kind_from e.under) e.left w) where
+      fed_on : told_by a.reason a e ≡ fed_with g e w
+      unfolding fed_with
+      fed_on = rw (z, lt-leb most_fed e.place few, sym told)
 
       -- the word is refused
-      pub fed-refused : a.reason ≢ 0 → refusedBy a.reason e ≡ fedWith g e w
-      fed-refused n = told-refused a.reason a e n ∙ fed-on
+      pub fed_refused : a.reason ≢ 0 → refused_by a.reason e ≡ fed_with g e w
+      fed_refused n = told_refused a.reason a e n ∙ fed_on
 
       module _ (y : a.reason ≡ 0) where
-        fed-taken : takenBy a e ≡ fedWith g e w
-        fed-taken = ap (λ (r : ℕ). toldBy r a e) (sym y) ∙ fed-on
+        fed_taken : taken_by a e ≡ fed_with g e w
+        fed_taken = ap (λ (r : ℕ). told_by r a e) (sym y) ∙ fed_on
 
         -- it is taken, with what the arrays then are
         abbrev after : List ℕ → List ℕ → Engine
@@ -79,10 +79,10 @@ module _ (g : Terms) (e : Engine) (w : ℕ) where
             }
 
         -- it writes nothing,
-        pub fed-unstored : cells ≤ a.cell.0 → after e.values e.marks ≡ fedWith g e w
-        fed-unstored h = rw (sym fed-taken, le-ltb a.cell.0 cells h)
+        pub fed_unstored : cells ≤ a.cell.0 → after e.values e.marks ≡ fed_with g e w
+        fed_unstored h = rw (sym fed_taken, le-ltb a.cell.0 cells h)
 
         -- or a cell
-        pub fed-stored : a.cell.0 < cells → {marks : List ℕ} → marks ≡ withMark e.marks a.cell.0
-            → after (set e.values a.cell.0 a.value) marks ≡ fedWith g e w
-        fed-stored h m = rw (sym fed-taken, lt-ltb a.cell.0 cells h, m)
+        pub fed_stored : a.cell.0 < cells → {marks : List ℕ} → marks ≡ with_mark e.marks a.cell.0
+            → after (set e.values a.cell.0 a.value) marks ≡ fed_with g e w
+        fed_stored h m = rw (sym fed_taken, lt-ltb a.cell.0 cells h, m)

@@ -3,15 +3,15 @@
 ghost use Rattle.std.specs.Prelude.{◌≡◌, cond, ◌++◌, ◌≤◌, ◌<◌, ◌%◌, length, take};
 ghost use Rattle.meaning.specs.Words.{words_of};
 ghost use Rattle.meaning.specs.Registers.{cells};
-ghost use Rattle.meaning.specs.Grants.{Terms, mostGrants};
-ghost use Rattle.meaning.specs.State.{stateWords, isMark};
+ghost use Rattle.meaning.specs.Grants.{Terms, most_grants};
+ghost use Rattle.meaning.specs.State.{state_words, is_mark};
 ghost use Rattle.pair.specs.Marks.{outside, cleared, restored};
-ghost use Rattle.pair.specs.Judged.{keptIn};
+ghost use Rattle.pair.specs.Judged.{kept_in};
 ghost use Rattle.grants.specs.Kept.{Keeps};
 ghost use Rattle.asking.specs.Asked.{capped};
 ghost use Rattle.feeding.specs.Steps.{closes, leaves};
-ghost use Rattle.engine.specs.Bits.{bit_of, marksOf, withMark, packed};
-ghost use Rattle.engine.specs.Kept.{openingReason, byteBounds, blank, openedWith, fedWith, closingReason, reasonBehind, handed, opening, standing, pairJudged, behind};
+ghost use Rattle.engine.specs.Bits.{bit_of, marks_of, with_mark, packed};
+ghost use Rattle.engine.specs.Kept.{opening_reason, byte_bounds, blank, opened_with, fed_with, closing_reason, reason_behind, handed, opening, standing, pair_judged, behind};
 
 use asking::ByteBounds;
 use grants::{BOUNDS, Bounds, Numbers, Part, Spans};
@@ -58,7 +58,7 @@ pub struct Closed {
 // Sets the mark of a cell.
 fn set_mark(marks: &mut Marks, cell: usize)
     requires inside { cell < cells }
-    ensures marked { marks.new ≡ withMark marks.old cell }
+    ensures marked { marks.new ≡ with_mark marks.old cell }
 {
     let i = cell / MARKS_IN_WORD;
     marks[i] = marks[i] | 1u32 << cell % MARKS_IN_WORD;
@@ -67,7 +67,7 @@ fn set_mark(marks: &mut Marks, cell: usize)
 // Sets the mark of a cell that a state marks.
 fn load_mark(marks: &mut Marks, cell: usize, mark: u32)
     requires inside { cell < cells }
-    ensures marked { marks.new ≡ cond (isMark mark) (withMark marks.old cell) marks.old }
+    ensures marked { marks.new ≡ cond (is_mark mark) (with_mark marks.old cell) marks.old }
 {
     if mark == 0 {
         return;
@@ -90,7 +90,7 @@ fn outside_pair(cell: Cell, mark: u32) -> u32
 
 // The values of a state, its marks as bits, and the same without those of the pair, which come back as they are written.
 fn load(state: &[u8], values: &mut Values, marked: &mut Marks, marks: &mut Marks)
-    requires whole { length (words_of state.now) ≡ stateWords }
+    requires whole { length (words_of state.now) ≡ state_words }
     requires array { length values.old ≡ cells }
     ensures values { values.new ≡ take cells (words_of state.now) }
     ensures marked { marked.new ≡ packed (words_of state.now) cells marked.old }
@@ -108,7 +108,7 @@ fn load(state: &[u8], values: &mut Values, marked: &mut Marks, marks: &mut Marks
 
 // Bounds as bytes.
 fn byte_bounds(bounds: &Bounds) -> ByteBounds
-    ensures bytes { result ≡ byteBounds bounds.now }
+    ensures bytes { result ≡ byte_bounds bounds.now }
 {
     [
         (bounds[0] % 256) as u8,
@@ -144,7 +144,7 @@ fn refused(reason: u32) -> Engine
 
 // 1 before 2.
 fn opening_reason(formed: bool, fine: bool) -> u32
-    ensures reason { result ≡ openingReason formed fine }
+    ensures reason { result ≡ opening_reason formed fine }
 {
     if !formed {
         return BAD_STATE;
@@ -158,7 +158,7 @@ fn opening_reason(formed: bool, fine: bool) -> u32
 // Opens an engine with copies of a state and of grants: 1 if the state is not well-formed, 2 if the grant list breaks its rules, else 0 at 0.
 // Bytes past the last whole word of a buffer count for nothing.
 pub fn open(state: &[u8], grants: &[u8]) -> Engine
-    ensures opened { result ≡ openedWith (words_of state.now) (words_of grants.now) }
+    ensures opened { result ≡ opened_with (words_of state.now) (words_of grants.now) }
 {
     let mut starts = [0u32; MOST_GRANTS];
     let mut lasts = [0u32; MOST_GRANTS];
@@ -195,7 +195,7 @@ pub fn open(state: &[u8], grants: &[u8]) -> Engine
 // Feeds a word: 0 at the number fed, or the refusal that stands from then on. The engine is changed in one function and by nothing else, so
 // that it is copied twice a word and not more often: in, and out.
 pub fn feed(mut engine: Engine, word: u32) -> Engine
-    ensures fed { (g : Terms) → Keeps g engine.starts engine.lasts (capped engine.bounds) → result ≡ fedWith g engine word }
+    ensures fed { (g : Terms) → Keeps g engine.starts engine.lasts (capped engine.bounds) → result ≡ fed_with g engine word }
 {
     if engine.reason != 0 {
         return engine;
@@ -239,9 +239,9 @@ fn mark_in(marks: &Marks, cell: usize) -> u32
 
 // A state out of values and marks.
 fn lay<'a>(values: &'a Values, marks: &'a Marks, state: &mut State)
-    requires array { length state.old ≡ stateWords }
-    ensures laid { state.new ≡ values.now ++ marksOf marks.now }
-    ensures size { length state.new ≡ stateWords }
+    requires array { length state.old ≡ state_words }
+    ensures laid { state.new ≡ values.now ++ marks_of marks.now }
+    ensures size { length state.new ≡ state_words }
 {
     // A slice tells how long it is, which a reference to an array does not.
     let all = &values[..];
@@ -255,7 +255,7 @@ fn lay<'a>(values: &'a Values, marks: &'a Marks, state: &mut State)
 
 // The refusal that stands, or 10 where the open packet wants more words.
 fn closing_reason(reason: u32, left: u32) -> u32
-    ensures reason { result ≡ closingReason reason left }
+    ensures reason { result ≡ closing_reason reason left }
 {
     if reason != 0 {
         return reason;
@@ -281,10 +281,10 @@ fn hand_back<'a>(
     part: Part,
     state: &mut State,
 ) -> u32
-    requires array { length state.old ≡ stateWords }
-    requires inside { part.to ≤ mostGrants }
-    ensures reason { result ≡ reasonBehind (closingReason reason left) (keptIn starts.now lasts.now numbers.now part (bit_of marked.now 1) (bit_of marked.now 2) (values.now ++ marksOf marks.now)) }
-    ensures state { state.new ≡ handed result (restored (bit_of marked.now 1) (bit_of marked.now 2) (values.now ++ marksOf marks.now)) (before.now ++ marksOf marked.now) }
+    requires array { length state.old ≡ state_words }
+    requires inside { part.to ≤ most_grants }
+    ensures reason { result ≡ reason_behind (closing_reason reason left) (kept_in starts.now lasts.now numbers.now part (bit_of marked.now 1) (bit_of marked.now 2) (values.now ++ marks_of marks.now)) }
+    ensures state { state.new ≡ handed result (restored (bit_of marked.now 1) (bit_of marked.now 2) (values.now ++ marks_of marks.now)) (before.now ++ marks_of marked.now) }
 {
     let ended = closing_reason(reason, left);
     if ended != 0 {
@@ -303,8 +303,8 @@ fn hand_back<'a>(
 
 // Closes an engine: the reader's answer on the words fed, or the refusal that stands; and the state, changed only if all is accepted.
 pub fn close(engine: Engine) -> Closed
-    ensures answer { result.answer ≡ closes (pairJudged engine) (standing engine) }
-    ensures state { result.state ≡ leaves (pairJudged engine) (standing engine) (behind engine) (opening engine) }
+    ensures answer { result.answer ≡ closes (pair_judged engine) (standing engine) }
+    ensures state { result.state ≡ leaves (pair_judged engine) (standing engine) (behind engine) (opening engine) }
 {
     let mut state = [0u32; STATE_WORDS];
     let place = engine.place as usize;

@@ -5,11 +5,11 @@ use Rattle.meaning.specs.declared.Kind.{Kind}
 use Rattle.meaning.specs.declared.Kind.TheVariants.{Setting}
 use Rattle.meaning.specs.declared.Answer.{Answer}
 use Rattle.meaning.specs.Grants.{Terms}
-use Rattle.meaning.specs.State.{applyAll}
-use Rattle.meaning.specs.Positions.{nextKind, nextLeft, writeAt}
-use Rattle.meaning.specs.Answers.{engineFull, success, answer, settle}
+use Rattle.meaning.specs.State.{apply_all}
+use Rattle.meaning.specs.Positions.{next_kind, next_left, write_at}
+use Rattle.meaning.specs.Answers.{engine_full, success, answer, settle}
 use Rattle.meaning.specs.Reader.{judge, ended, paired}
-use Rattle.meaning.specs.Engine.{mostFed}
+use Rattle.meaning.specs.Engine.{most_fed}
 
 -- what stands between words: the answer, the position in the packet, and the state that was begun with, with all that the words fed write.
 -- As long as no word is refused, the answer is 0 at the number fed
@@ -32,9 +32,9 @@ abbrev pub taken : ℕ → Standing → Standing
 taken w s =
     record {
       answer = answer success (suc s.answer.place);
-      kind = nextKind s.kind s.left w;
-      left = nextLeft s.left w;
-      pending = applyAll s.pending (writeAt s.kind s.left w);
+      kind = next_kind s.kind s.left w;
+      left = next_left s.left w;
+      pending = apply_all s.pending (write_at s.kind s.left w);
     }
 
 -- by the word's reason
@@ -43,15 +43,15 @@ judged zero w s = taken w s
 judged (suc r) w s = refused (suc r) s
 
 -- by the reason that stands
-abbrev pub unlessRefused : ℕ → Standing → Standing → Standing
-unlessRefused zero s next = next
-unlessRefused (suc r) s next = s
+abbrev pub unless_refused : ℕ → Standing → Standing → Standing
+unless_refused zero s next = next
+unless_refused (suc r) s next = s
 
 -- one word fed
 unfoldable pub step : Terms → Standing → ℕ → Standing
 step g s w =
-    unlessRefused s.answer.reason s
-    (cond (leb mostFed s.answer.place) (refused engineFull s) (judged (judge g s.kind s.left w) w s))
+    unless_refused s.answer.reason s
+    (cond (leb most_fed s.answer.place) (refused engine_full s) (judged (judge g s.kind s.left w) w s))
 
 -- ---- closing
 

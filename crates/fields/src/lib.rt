@@ -20,14 +20,14 @@ pub fn offset(header: u32) -> u32
 
 // HParaSubType of a setting.
 pub fn sub_type(setting: u32) -> u32
-    ensures sub { result ≡ parts.paraSubType setting }
+    ensures sub { result ≡ parts.para_sub_type setting }
 {
     setting / 16777216 % 256
 }
 
 // The sub-address of a parameter.
 pub fn sub_address(parameter: u32) -> SubAddress
-    ensures address { result ≡ parts.subAddress parameter }
+    ensures address { result ≡ parts.sub_address parameter }
 {
     SubAddress(parameter / 16777216 % 256)
 }

@@ -10,38 +10,38 @@ use lib.ListN.{get_or}
 use Rattle.meaning.specs.declared.Memory.{Memory}
 use Rattle.meaning.specs.declared.Which.{Which}
 use Rattle.meaning.specs.declared.Which.TheVariants as by
-use Rattle.grants.specs.Kept.{number_in, liesAs, spansAt, coversAt, whichKept}
+use Rattle.grants.specs.Kept.{number_in, lies_as, spans_at, covers_at, which_kept}
 
 -- what a grant that spans the address tells is whether it is in the memory
 pub in_span : (starts lasts numbers : List ℕ) (i : ℕ) (m : Memory) (a : ℕ) → get_or starts i 0 ≤ a → a ≤ get_or lasts i 0
-    → {r : Bool} → r ≡ liesAs m (get_or numbers i 0) → r ≡ coversAt starts lasts numbers i m a
-unfolding coversAt spansAt
+    → {r : Bool} → r ≡ lies_as m (get_or numbers i 0) → r ≡ covers_at starts lasts numbers i m a
+unfolding covers_at spans_at
 in_span starts lasts numbers i m a from to e = rw (le-leb (get_or starts i 0) a from, le-leb a (get_or lasts i 0) to) e
 
 module _ (starts lasts numbers : List ℕ) (m : Memory) (a : ℕ) where
   -- the first of the kept grants from i on to the last
   abbrev up_to : ℕ → ℕ → Which
-  up_to i last = whichKept starts lasts numbers i (suc last - i) m a
+  up_to i last = which_kept starts lasts numbers i (suc last - i) m a
 
   -- no grant covers anything
-  pub none : (i n : ℕ) → n ≡ 0 → by.Nobody ≡ whichKept starts lasts numbers i n m a
-  unfolding whichKept
+  pub none : (i n : ℕ) → n ≡ 0 → by.Nobody ≡ which_kept starts lasts numbers i n m a
+  unfolding which_kept
   none i n e = rw e
 
   module _ {i last : ℕ} (l : i ≤ last) where
-    next : up_to i last ≡ cond (coversAt starts lasts numbers i m a) (by.Grant (number_in (get_or numbers i 0))) (up_to (i + 1) last)
-    unfolding whichKept
+    next : up_to i last ≡ cond (covers_at starts lasts numbers i m a) (by.Grant (number_in (get_or numbers i 0))) (up_to (i + 1) last)
+    unfolding which_kept
     next =
         let one : i + 1 ≡ suc i = omega arith in
         let left : suc last - i ≡ suc (suc last - suc i) = omega arith in
         rw (one, left)
 
     -- the next one covers the address
-    pub hit : {r : Bool} → r ≡ coversAt starts lasts numbers i m a → r ≡ true → by.Grant (number_in (get_or numbers i 0)) ≡ up_to i last
+    pub hit : {r : Bool} → r ≡ covers_at starts lasts numbers i m a → r ≡ true → by.Grant (number_in (get_or numbers i 0)) ≡ up_to i last
     hit e t = rw (next, ← e, t)
 
     -- it does not, and the rest decides
-    pub missed : {r : Bool} → r ≡ coversAt starts lasts numbers i m a → r ≡ false → up_to (i + 1) last ≡ up_to i last
+    pub missed : {r : Bool} → r ≡ covers_at starts lasts numbers i m a → r ≡ false → up_to (i + 1) last ≡ up_to i last
     missed e f = rw (next, ← e, f)
 
   -- the last alone is left
@@ -49,9 +49,9 @@ module _ (starts lasts numbers : List ℕ) (m : Memory) (a : ℕ) where
   from_last i last e = rw e
 
   -- behind the last there is none
-  pub past-last : (last : ℕ) → by.Nobody ≡ up_to (last + 1) last
-  past-last last = none (last + 1) (suc last - (last + 1)) (omega arith)
+  pub past_last : (last : ℕ) → by.Nobody ≡ up_to (last + 1) last
+  past_last last = none (last + 1) (suc last - (last + 1)) (omega arith)
 
   -- up to the last is up to the end
-  pub whole : (from to : ℕ) → from < to → up_to from (to - 1) ≡ whichKept starts lasts numbers from (to - from) m a
-  whole from to l = let e : suc (to - 1) - from ≡ to - from = omega arith in ap (λ (n : ℕ). whichKept starts lasts numbers from n m a) e
+  pub whole : (from to : ℕ) → from < to → up_to from (to - 1) ≡ which_kept starts lasts numbers from (to - from) m a
+  whole from to l = let e : suc (to - 1) - from ≡ to - from = omega arith in ap (λ (n : ℕ). which_kept starts lasts numbers from n m a) e

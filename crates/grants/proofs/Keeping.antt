@@ -13,10 +13,10 @@ use Rattle.laws.specs.Lists.{some}
 use Rattle.meaning.specs.declared.Memory.TheVariants.{Either}
 use Rattle.meaning.specs.declared.Which.{Which}
 use Rattle.meaning.specs.declared.Which.TheVariants as by
-use Rattle.meaning.specs.Grants.{Grant, Terms, covers, granted, isGrant}
-use Rattle.numbering.proofs.Numbering.{some_first, granted-which}
+use Rattle.meaning.specs.Grants.{Grant, Terms, covers, granted, is_grant}
+use Rattle.numbering.proofs.Numbering.{some_first, granted_which}
 use Rattle.grants.specs.declared.Part.{Part}
-use Rattle.grants.specs.Kept.{Keeps, Granting, Names, number_in, spansAt, coversAt, coveredFrom, coveredIn, whichKept, whichIn, part_of}
+use Rattle.grants.specs.Kept.{Keeps, Granting, Names, number_in, spans_at, covers_at, covered_from, covered_in, which_kept, which_in, part_of}
 
 -- two tests that tell the same are equal
 pub same_test : (a b : Bool) → (T a → T b) → (T b → T a) → a ≡ b
@@ -26,13 +26,13 @@ same_test false true f g = absurd (g tt)
 same_test false false f g = refl
 
 -- kept grants as grants of a role, in some memory: a length of one more than the last address is past the first, and a reach of 1
-asGrants : ℕ → List ℕ → List ℕ → ℕ → ℕ → List Grant
-asGrants role starts lasts i zero = []
-asGrants role starts lasts i (suc n) =
-    record { role = role; start = get_or starts i 0; length = suc (get_or lasts i 0) - get_or starts i 0; reach = 1; memory = 0 } ∷ asGrants role starts lasts (suc i) n
+as_grants : ℕ → List ℕ → List ℕ → ℕ → ℕ → List Grant
+as_grants role starts lasts i zero = []
+as_grants role starts lasts i (suc n) =
+    record { role = role; start = get_or starts i 0; length = suc (get_or lasts i 0) - get_or starts i 0; reach = 1; memory = 0 } ∷ as_grants role starts lasts (suc i) n
 
-spanned-again : (first last a : ℕ) → (leb first a && leb (a + 1) (first + (suc last - first))) ≡ (leb first a && leb a last)
-spanned-again first last a =
+spanned_again : (first last a : ℕ) → (leb first a && leb (a + 1) (first + (suc last - first))) ≡ (leb first a && leb a last)
+spanned_again first last a =
     same_test _ _
     (λ t.
     let p = and_yes (leb first a) _ t in
@@ -46,41 +46,41 @@ spanned-again first last a =
     yes_and (leb first a) _ p.0 (le→leb (a + 1) (first + (suc last - first)) (omega arith)))
 
 -- they grant what is covered, to that role alone
-granted-again : (r : ℕ) (starts lasts : List ℕ) (i n role a : ℕ) → granted (asGrants r starts lasts i n) Either role a ≡ (eqb r role && coveredFrom starts lasts i n a)
-unfolding granted some covers coveredFrom spansAt asGrants
-granted-again r starts lasts i zero role a = sym (and-false (eqb r role))
-granted-again r starts lasts i (suc n) role a =
-    rw (spanned-again (get_or starts i 0) (get_or lasts i 0) a, granted-again r starts lasts (suc i) n role a)
-    (sym (and-or_distrib_left (eqb r role) (spansAt starts lasts i a) (coveredFrom starts lasts (suc i) n a)))
+granted_again : (r : ℕ) (starts lasts : List ℕ) (i n role a : ℕ) → granted (as_grants r starts lasts i n) Either role a ≡ (eqb r role && covered_from starts lasts i n a)
+unfolding granted some covers covered_from spans_at as_grants
+granted_again r starts lasts i zero role a = sym (and-false (eqb r role))
+granted_again r starts lasts i (suc n) role a =
+    rw (spanned_again (get_or starts i 0) (get_or lasts i 0) a, granted_again r starts lasts (suc i) n role a)
+    (sym (and-or_distrib_left (eqb r role) (spans_at starts lasts i a) (covered_from starts lasts (suc i) n a)))
 
 -- grants of two lists
-granted-append : (gs hs : List Grant) (role a : ℕ) → granted (gs ++ hs) Either role a ≡ (granted gs Either role a || granted hs Either role a)
+granted_append : (gs hs : List Grant) (role a : ℕ) → granted (gs ++ hs) Either role a ≡ (granted gs Either role a || granted hs Either role a)
 unfolding granted some
-granted-append [] hs role a = refl
-granted-append (g ∷ gs) hs role a =
-    ap (λ (b : Bool). covers Either role a g || b) (granted-append gs hs role a)
+granted_append [] hs role a = refl
+granted_append (g ∷ gs) hs role a =
+    ap (λ (b : Bool). covers Either role a g || b) (granted_append gs hs role a)
     ∙ sym (or_assoc (covers Either role a g) (granted gs Either role a) (granted hs Either role a))
 
-pub part-some : (role : ℕ) (starts lasts : List ℕ) (part : Part) → (g : Terms) × Granting g role starts lasts part
-part-some role starts lasts part = (
-  record { grants = asGrants role starts lasts part.from (part.to - part.from) },
-  λ a. granted-again role starts lasts part.from (part.to - part.from) role a ∙ rw (eq-eqb role role refl),
+pub part_some : (role : ℕ) (starts lasts : List ℕ) (part : Part) → (g : Terms) × Granting g role starts lasts part
+part_some role starts lasts part = (
+  record { grants = as_grants role starts lasts part.from (part.to - part.from) },
+  λ a. granted_again role starts lasts part.from (part.to - part.from) role a ∙ rw (eq-eqb role role refl),
 )
 
-pub kept-some : (starts lasts bounds : List ℕ) → (g : Terms) × Keeps g starts lasts bounds
-kept-some starts lasts bounds =
+pub kept_some : (starts lasts bounds : List ℕ) → (g : Terms) × Keeps g starts lasts bounds
+kept_some starts lasts bounds =
     let from : ℕ → ℕ = λ r. (part_of bounds r).from in
     let long : ℕ → ℕ = λ r. (part_of bounds r).to - (part_of bounds r).from in
-    let one : ℕ → List Grant = λ r. asGrants r starts lasts (from r) (long r) in
-    let covered : ℕ → ℕ → Bool = λ r a. coveredIn starts lasts (part_of bounds r) a in
+    let one : ℕ → List Grant = λ r. as_grants r starts lasts (from r) (long r) in
+    let covered : ℕ → ℕ → Bool = λ r a. covered_in starts lasts (part_of bounds r) a in
     let all : (role a : ℕ) → granted (one 1 ++ (one 2 ++ one 3)) Either role a ≡ ((eqb 1 role && covered 1 a) || ((eqb 2 role && covered 2 a) || (eqb 3 role && covered 3 a))) =
     λ role a.
-    granted-append (one 1) (one 2 ++ one 3) role a
+    granted_append (one 1) (one 2 ++ one 3) role a
     ∙ rw (
-      granted-append (one 2) (one 3) role a,
-      granted-again 1 starts lasts (from 1) (long 1) role a,
-      granted-again 2 starts lasts (from 2) (long 2) role a,
-      granted-again 3 starts lasts (from 3) (long 3) role a,
+      granted_append (one 2) (one 3) role a,
+      granted_again 1 starts lasts (from 1) (long 1) role a,
+      granted_again 2 starts lasts (from 2) (long 2) role a,
+      granted_again 3 starts lasts (from 3) (long 3) role a,
     ) in (
       record { grants = one 1 ++ (one 2 ++ one 3) },
       record { targets = λ a. all 1 a ∙ or-false (covered 1 a); firsts = λ a. all 2 a ∙ or-false (covered 2 a); seconds = all 3 },
@@ -89,33 +89,33 @@ kept-some starts lasts bounds =
 -- ---- the test
 
 -- the test in whichever memory tells what is covered, whatever the numbers are
-covered-which : (starts lasts numbers : List ℕ) (i n a : ℕ) → isGrant (whichKept starts lasts numbers i n Either a) ≡ coveredFrom starts lasts i n a
-unfolding whichKept coveredFrom coversAt
-covered-which starts lasts numbers i zero a = refl
-covered-which starts lasts numbers i (suc n) a =
-    let spans = spansAt starts lasts i a in
-    some_first (spans && true) (number_in (get_or numbers i 0)) (whichKept starts lasts numbers (suc i) n Either a)
-    ∙ rw (and-true, covered-which starts lasts numbers (suc i) n a)
+covered_which : (starts lasts numbers : List ℕ) (i n a : ℕ) → is_grant (which_kept starts lasts numbers i n Either a) ≡ covered_from starts lasts i n a
+unfolding which_kept covered_from covers_at
+covered_which starts lasts numbers i zero a = refl
+covered_which starts lasts numbers i (suc n) a =
+    let spans = spans_at starts lasts i a in
+    some_first (spans && true) (number_in (get_or numbers i 0)) (which_kept starts lasts numbers (suc i) n Either a)
+    ∙ rw (and-true, covered_which starts lasts numbers (suc i) n a)
 
 -- so an address that the test admits is granted; the address as the test was handed it
-pub as-granted : (g : Terms) (role : ℕ) (starts lasts numbers : List ℕ) (part : Part) (a : ℕ) {b : ℕ} {w : Which} → Granting g role starts lasts part → b ≡ a
-    → w ≡ whichIn starts lasts numbers part Either b → isGrant w ≡ granted g.grants Either role a
-as-granted g role starts lasts numbers part a {b} given same e =
-    ap isGrant e ∙ covered-which starts lasts numbers part.from (part.to - part.from) b ∙ sym (given b) ∙ ap (granted g.grants Either role) same
+pub as_granted : (g : Terms) (role : ℕ) (starts lasts numbers : List ℕ) (part : Part) (a : ℕ) {b : ℕ} {w : Which} → Granting g role starts lasts part → b ≡ a
+    → w ≡ which_in starts lasts numbers part Either b → is_grant w ≡ granted g.grants Either role a
+as_granted g role starts lasts numbers part a {b} given same e =
+    ap is_grant e ∙ covered_which starts lasts numbers part.from (part.to - part.from) b ∙ sym (given b) ∙ ap (granted g.grants Either role) same
 
 -- which of the two it is
-pub by-nobody : {w : Which} → w ≡ by.Nobody → not (isGrant w) ≡ true
-by-nobody e = rw e
+pub by_nobody : {w : Which} → w ≡ by.Nobody → not (is_grant w) ≡ true
+by_nobody e = rw e
 
-pub by-grant : {w : Which} {n : ℕ} → w ≡ by.Grant n → not (isGrant w) ≡ false
-by-grant e = rw e
+pub by_grant : {w : Which} {n : ℕ} → w ≡ by.Grant n → not (is_grant w) ≡ false
+by_grant e = rw e
 
 -- and what names the grants of a list keeps what they grant
-pub names-keep : (g : Terms) (starts lasts numbers bounds : List ℕ) → Names g starts lasts numbers bounds → Keeps g starts lasts bounds
-names-keep g starts lasts numbers bounds names =
+pub names_keep : (g : Terms) (starts lasts numbers bounds : List ℕ) → Names g starts lasts numbers bounds → Keeps g starts lasts bounds
+names_keep g starts lasts numbers bounds names =
     let each : (role : ℕ) → 1 ≤ role → role < 4 → Granting g role starts lasts (part_of bounds role) =
     λ role low high a.
-    granted-which g.grants Either role a
-    ∙ ap isGrant (names Either role low high a)
-    ∙ covered-which starts lasts numbers (part_of bounds role).from ((part_of bounds role).to - (part_of bounds role).from) a in
+    granted_which g.grants Either role a
+    ∙ ap is_grant (names Either role low high a)
+    ∙ covered_which starts lasts numbers (part_of bounds role).from ((part_of bounds role).to - (part_of bounds role).from) a in
     record { targets = each 1 (omega arith) (omega arith); firsts = each 2 (omega arith) (omega arith); seconds = each 3 (omega arith) (omega arith) }

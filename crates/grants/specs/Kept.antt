@@ -5,7 +5,7 @@ use Rattle.meaning.specs.declared.Memory.{Memory}
 use Rattle.meaning.specs.declared.Memory.TheVariants.{Either, Only}
 use Rattle.meaning.specs.declared.Which.{Which}
 use Rattle.meaning.specs.declared.Which.TheVariants as by
-use Rattle.meaning.specs.Grants.{Terms, mostGrants, granted, which}
+use Rattle.meaning.specs.Grants.{Terms, most_grants, granted, which}
 use Rattle.grants.specs.declared.Part.{Part}
 
 -- ---- the byte that bears a grant's number and its memory
@@ -19,39 +19,39 @@ abbrev pub number_in : ℕ → ℕ
 number_in byte = byte % 64
 
 -- it is in the memory that is asked about
-abbrev pub liesAs : Memory → ℕ → Bool
-liesAs Either byte = true
-liesAs (Only m) byte = eqb (byte / 64) m
+abbrev pub lies_as : Memory → ℕ → Bool
+lies_as Either byte = true
+lies_as (Only m) byte = eqb (byte / 64) m
 
 -- ---- kept grants
 
 -- kept grant number i spans the address,
-unfoldable pub spansAt : List ℕ → List ℕ → ℕ → ℕ → Bool
-spansAt starts lasts i a = leb (get_or starts i 0) a && leb a (get_or lasts i 0)
+unfoldable pub spans_at : List ℕ → List ℕ → ℕ → ℕ → Bool
+spans_at starts lasts i a = leb (get_or starts i 0) a && leb a (get_or lasts i 0)
 
 -- one of the n kept grants from number i on does,
-unfoldable pub coveredFrom : List ℕ → List ℕ → ℕ → ℕ → ℕ → Bool
-coveredFrom starts lasts i zero a = false
-coveredFrom starts lasts i (suc n) a = let more = coveredFrom starts lasts (suc i) n a in spansAt starts lasts i a || more
+unfoldable pub covered_from : List ℕ → List ℕ → ℕ → ℕ → ℕ → Bool
+covered_from starts lasts i zero a = false
+covered_from starts lasts i (suc n) a = let more = covered_from starts lasts (suc i) n a in spans_at starts lasts i a || more
 
 -- one of a part does
-abbrev pub coveredIn : List ℕ → List ℕ → Part → ℕ → Bool
-coveredIn starts lasts part a = coveredFrom starts lasts part.from (part.to - part.from) a
+abbrev pub covered_in : List ℕ → List ℕ → Part → ℕ → Bool
+covered_in starts lasts part a = covered_from starts lasts part.from (part.to - part.from) a
 
 -- it spans the address, and is in the memory
-unfoldable pub coversAt : List ℕ → List ℕ → List ℕ → ℕ → Memory → ℕ → Bool
-coversAt starts lasts numbers i m a = spansAt starts lasts i a && liesAs m (get_or numbers i 0)
+unfoldable pub covers_at : List ℕ → List ℕ → List ℕ → ℕ → Memory → ℕ → Bool
+covers_at starts lasts numbers i m a = spans_at starts lasts i a && lies_as m (get_or numbers i 0)
 
 -- the number of the first of the n kept grants from number i on that does
-unfoldable pub whichKept : List ℕ → List ℕ → List ℕ → ℕ → ℕ → Memory → ℕ → Which
-whichKept starts lasts numbers i zero m a = by.Nobody
-whichKept starts lasts numbers i (suc n) m a =
-    let more = whichKept starts lasts numbers (suc i) n m a in
-    cond (coversAt starts lasts numbers i m a) (by.Grant (number_in (get_or numbers i 0))) more
+unfoldable pub which_kept : List ℕ → List ℕ → List ℕ → ℕ → ℕ → Memory → ℕ → Which
+which_kept starts lasts numbers i zero m a = by.Nobody
+which_kept starts lasts numbers i (suc n) m a =
+    let more = which_kept starts lasts numbers (suc i) n m a in
+    cond (covers_at starts lasts numbers i m a) (by.Grant (number_in (get_or numbers i 0))) more
 
 -- the first of a part
-abbrev pub whichIn : List ℕ → List ℕ → List ℕ → Part → Memory → ℕ → Which
-whichIn starts lasts numbers part m a = whichKept starts lasts numbers part.from (part.to - part.from) m a
+abbrev pub which_in : List ℕ → List ℕ → List ℕ → Part → Memory → ℕ → Which
+which_in starts lasts numbers part m a = which_kept starts lasts numbers part.from (part.to - part.from) m a
 
 -- the part of a role
 abbrev pub part_of : List ℕ → ℕ → Part
@@ -59,11 +59,11 @@ part_of bounds role = record { from = get_or bounds role 0; to = get_or bounds (
 
 -- no part reaches past the room there is
 abbrev pub Bounded : List ℕ → Type 0
-Bounded bounds = (role : ℕ) → role < 4 → (part_of bounds role).to ≤ mostGrants
+Bounded bounds = (role : ℕ) → role < 4 → (part_of bounds role).to ≤ most_grants
 
 -- a part covers what a role is granted
 abbrev pub Granting : Terms → ℕ → List ℕ → List ℕ → Part → Type 0
-Granting g role starts lasts part = (a : ℕ) → granted g.grants Either role a ≡ coveredIn starts lasts part a
+Granting g role starts lasts part = (a : ℕ) → granted g.grants Either role a ≡ covered_in starts lasts part a
 
 -- what is kept keeps what a grant list grants, each role in its part. For this the numbers do not matter
 pub record Keeps (g : Terms) (starts lasts bounds : List ℕ) : Type 0 where
@@ -74,4 +74,4 @@ pub record Keeps (g : Terms) (starts lasts bounds : List ℕ) : Type 0 where
 -- THE RELATION: it keeps the list, so that the test names the grant that admits an address, in whichever memory and in each
 abbrev pub Names : Terms → List ℕ → List ℕ → List ℕ → List ℕ → Type 0
 Names g starts lasts numbers bounds =
-    (m : Memory) (role : ℕ) → 1 ≤ role → role < 4 → (a : ℕ) → which g.grants m role a ≡ whichIn starts lasts numbers (part_of bounds role) m a
+    (m : Memory) (role : ℕ) → 1 ≤ role → role < 4 → (a : ℕ) → which g.grants m role a ≡ which_in starts lasts numbers (part_of bounds role) m a

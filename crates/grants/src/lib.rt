@@ -1,7 +1,7 @@
 // Grants kept by role, each as the first and the last address that it covers, so that a test is two comparisons, and with its number.
 ghost use Rattle.std.specs.Prelude.{◌≡◌, ◌≤◌, ◌<◌};
 ghost use Rattle.meaning.specs.declared.Which.TheVariants as by;
-ghost use Rattle.meaning.specs.Grants.{mostGrants};
+ghost use Rattle.meaning.specs.Grants.{most_grants};
 ghost use Rattle.grants.specs.Kept as kept;
 
 use meaning::{MOST_GRANTS, Memory, Which};
@@ -44,7 +44,7 @@ pub fn part_of(bounds: &Bounds, role: usize) -> Part
 
 // A kept grant is in the memory, by the byte that bears its number.
 fn lies(memory: Memory, number: u8) -> bool
-    ensures lies { result ≡ kept.liesAs memory number }
+    ensures lies { result ≡ kept.lies_as memory number }
 {
     match memory {
         Memory::Either => true,
@@ -61,8 +61,8 @@ fn covers(
     memory: Memory,
     address: u32,
 ) -> bool
-    requires inside { i < mostGrants }
-    ensures covers { result ≡ kept.coversAt starts.now lasts.now numbers.now i memory address }
+    requires inside { i < most_grants }
+    ensures covers { result ≡ kept.covers_at starts.now lasts.now numbers.now i memory address }
 {
     if address < starts[i] {
         return false;
@@ -91,8 +91,8 @@ pub fn which(
     memory: Memory,
     address: u32,
 ) -> Which
-    requires inside { part.to ≤ mostGrants }
-    ensures which { result ≡ kept.whichIn starts.now lasts.now numbers.now part memory address }
+    requires inside { part.to ≤ most_grants }
+    ensures which { result ≡ kept.which_in starts.now lasts.now numbers.now part memory address }
 {
     if part.to <= part.from {
         return Which::Nobody;

@@ -5,11 +5,11 @@ use Rattle.meaning.specs.declared.SubAddress.{SubAddress}
 use Rattle.meaning.specs.declared.Found.{Found}
 use Rattle.meaning.specs.declared.Found.TheVariants.{At, Missing}
 use Rattle.meaning.specs.declared.Kind.TheVariants as kinds
-use Rattle.meaning.specs.Words.{count, paraType, paraSubType}
-use Rattle.meaning.specs.Registers.{cell, find3D}
+use Rattle.meaning.specs.Words.{count, para_type, para_sub_type}
+use Rattle.meaning.specs.Registers.{cell, find_3d}
 use Rattle.meaning.specs.Batch.{allowed}
 use Rattle.meaning.specs.Positions.{kind_of}
-use Rattle.meaning.specs.Reader.{headerReason}
+use Rattle.meaning.specs.Reader.{header_reason}
 use Rattle.registers.specs.Names.{offset_of, ranged}
 use Rattle.rows_video.specs.Scalers as rows
 use Rattle.headers.specs.declared.Header.{Header}
@@ -21,25 +21,25 @@ use Rattle.headers.specs.declared.Group.TheVariants.{Target, Stage, Sample, Noth
 
 -- a run of n words from register i of a row of m registers on, the first of them cell c
 pub record Runs (h c i m : ℕ) : Type 0 where
-  pub fine : headerReason h ≡ 0
+  pub fine : header_reason h ≡ 0
   pub kind : kind_of h ≡ kinds.Video (offset_of (cell (c + i)))
   pub row : i + count h ≤ m
 
 -- what each case tells of the header
 abbrev pub Opens : ℕ → Header → Type 0
-Opens h (Refused r) = (headerReason h ≡ r) × (r ≡ 0 → ⊥)
-Opens h Setting = (headerReason h ≡ 0) × (kind_of h ≡ kinds.Setting)
+Opens h (Refused r) = (header_reason h ≡ r) × (r ≡ 0 → ⊥)
+Opens h Setting = (header_reason h ≡ 0) × (kind_of h ≡ kinds.Setting)
 Opens h (Overlay i) = Runs h 84 i 3
 Opens h (Scaler s) = Runs h s.base.0 s.index 7 × rows.Scaler s.base.0 s.role
 
 -- ---- groups
 
--- the cell that a sub-address names in a group
-unfoldable pub cellIn : Group → SubAddress → Found
-cellIn Target a = cond (eqb a.0 0x3F) (At (cell 0)) (ranged 0x50 3 1 a.0)
-cellIn (Stage c) a = ranged 0x50 2 c.0 a.0
-cellIn (Sample c) a = ranged 0x30 3 c.0 a.0
-cellIn Nothing a = Missing
+-- the cell that a sub_address names in a group
+unfoldable pub cell_in : Group → SubAddress → Found
+cell_in Target a = cond (eqb a.0 0x3F) (At (cell 0)) (ranged 0x50 3 1 a.0)
+cell_in (Stage c) a = ranged 0x50 2 c.0 a.0
+cell_in (Sample c) a = ranged 0x30 3 c.0 a.0
+cell_in Nothing a = Missing
 
 -- a group of the table
 pub data IsGroup : Group → Type 0 where
@@ -47,11 +47,11 @@ pub data IsGroup : Group → Type 0 where
   stage : (n : ℕ) → n < 16 → IsGroup (Stage (cell (4 + 2 * n)))
   sample : (n : ℕ) → n < 16 → IsGroup (Sample (cell (36 + 3 * n)))
 
--- a setting that is allowed names a group of the table, and that group tells where each sub-address leads
+-- a setting that is allowed names a group of the table, and that group tells where each sub_address leads
 pub record Leads (s : ℕ) (G : Group) : Type 0 where
   pub fine : allowed s ≡ true
   pub group : IsGroup G
-  pub found : (a : SubAddress) → find3D (paraType s) (paraSubType s) a ≡ cellIn G a
+  pub found : (a : SubAddress) → find_3d (para_type s) (para_sub_type s) a ≡ cell_in G a
 
 -- what each case tells of the setting
 abbrev pub Names : ℕ → Group → Type 0

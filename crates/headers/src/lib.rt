@@ -1,6 +1,6 @@
 // What a header opens, and the group that a setting names: 3, 4 and 5. The words behind them are asked in `judging`.
 ghost use Rattle.std.specs.Prelude.{◌≡◌, ◌≤◌, ◌<◌, ◌^◌};
-ghost use Rattle.headers.specs.Headers.{runReason, scalerAt, overlayRun, scalerRun, headerOf, group_of};
+ghost use Rattle.headers.specs.Headers.{run_reason, scaler_at, overlay_run, scaler_run, header_of, group_of};
 
 use meaning::{BAD_COUNT, BAD_OFFSET, Cell, SUCCESS, VideoOffset};
 
@@ -43,7 +43,7 @@ pub struct ScalerOffset {
 // registers, 4 where the run is empty or leaves the row.
 fn run_reason(distance: u32, n: usize, row: usize) -> u32
     requires few { n < 2 ^ 16 }
-    ensures reason { result ≡ runReason distance n row }
+    ensures reason { result ≡ run_reason distance n row }
 {
     if distance % 4 != 0 {
         return BAD_OFFSET;
@@ -62,7 +62,7 @@ fn run_reason(distance: u32, n: usize, row: usize) -> u32
 fn overlay_run(offset: VideoOffset, n: usize) -> Header
     requires low { 0x2208 ≤ offset.0 }
     requires few { n < 2 ^ 16 }
-    ensures opened { result ≡ overlayRun offset n }
+    ensures opened { result ≡ overlay_run offset n }
 {
     let distance = offset.0 - 0x2208;
     let reason = run_reason(distance, n, 3);
@@ -74,7 +74,7 @@ fn overlay_run(offset: VideoOffset, n: usize) -> Header
 
 // An offset of neither scaler is told as one between two registers.
 fn scaler_at(offset: VideoOffset) -> ScalerOffset
-    ensures told { result ≡ scalerAt offset }
+    ensures told { result ≡ scaler_at offset }
 {
     let o = offset.0;
     match o {
@@ -99,7 +99,7 @@ fn scaler_at(offset: VideoOffset) -> ScalerOffset
 // A run for a scaler, or for no register.
 fn scaler_run(offset: VideoOffset, n: usize) -> Header
     requires few { n < 2 ^ 16 }
-    ensures opened { result ≡ scalerRun offset n }
+    ensures opened { result ≡ scaler_run offset n }
 {
     let scaler = scaler_at(offset);
     let base = scaler.base;
@@ -117,7 +117,7 @@ fn scaler_run(offset: VideoOffset, n: usize) -> Header
 
 // What a header opens.
 pub fn header_of(header: u32) -> Header
-    ensures opened { result ≡ headerOf header }
+    ensures opened { result ≡ header_of header }
 {
     let offset = fields::offset(header);
     let n = fields::count(header) as usize;

@@ -9,14 +9,14 @@ use meaning::{Answer, BAD_BUFFER, Cell, MOST_BYTES};
 
 // 13: no buffer is over 65,536 bytes,
 fn buffer_fine(bytes: &[u8]) -> bool
-    ensures fine { result ≡ exported.bufferFine bytes.now }
+    ensures fine { result ≡ exported.buffer_fine bytes.now }
 {
     bytes.len() <= MOST_BYTES
 }
 
 // and a buffer of words is a multiple of 4.
 fn word_buffer_fine(bytes: &[u8]) -> bool
-    ensures fine { result ≡ exported.wordBufferFine bytes.now }
+    ensures fine { result ≡ exported.word_buffer_fine bytes.now }
 {
     if !buffer_fine(bytes) {
         return false;
@@ -26,7 +26,7 @@ fn word_buffer_fine(bytes: &[u8]) -> bool
 
 // The same of the three buffers of words that reader and writer are lent.
 fn word_buffers_fine(first: &[u8], second: &[u8], third: &[u8]) -> bool
-    ensures fine { result ≡ every exported.wordBufferFine (first.now ∷ second.now ∷ third.now ∷ []) }
+    ensures fine { result ≡ every exported.word_buffer_fine (first.now ∷ second.now ∷ third.now ∷ []) }
 {
     if !buffer_fine(first) {
         return false;
@@ -42,7 +42,7 @@ fn word_buffers_fine(first: &[u8], second: &[u8], third: &[u8]) -> bool
 
 // And of the two that lister and listing reader are lent: a state, which is words, and a text, which is bytes.
 fn text_buffers_fine(state: &[u8], text: &[u8]) -> bool
-    ensures fine { result ≡ exported.wordBufferFine state.now && exported.bufferFine text.now }
+    ensures fine { result ≡ exported.word_buffer_fine state.now && exported.buffer_fine text.now }
 {
     if !word_buffer_fine(state) {
         return false;
@@ -52,7 +52,7 @@ fn text_buffers_fine(state: &[u8], text: &[u8]) -> bool
 
 // And of the two that size and query are lent.
 fn two_buffers_fine(state: &[u8], grants: &[u8]) -> bool
-    ensures fine { result ≡ exported.wordBufferFine state.now && exported.wordBufferFine grants.now }
+    ensures fine { result ≡ exported.word_buffer_fine state.now && exported.word_buffer_fine grants.now }
 {
     if !word_buffer_fine(state) {
         return false;
@@ -62,7 +62,7 @@ fn two_buffers_fine(state: &[u8], grants: &[u8]) -> bool
 
 // The answer as one number. No place is larger than a buffer is long.
 fn number(answer: Answer) -> u64
-    requires place { answer.place ≤ exported.mostBytes }
+    requires place { answer.place ≤ exported.most_bytes }
     ensures number { result ≡ number_of answer }
 {
     answer.place as u64 * 256 + answer.reason as u64
@@ -72,8 +72,8 @@ fn number(answer: Answer) -> u64
 // the whole batch is accepted.
 #[unsafe(no_mangle)]
 pub extern "C" fn irangelda_read(batch: &[u8], grants: &[u8], state: &mut [u8]) -> u64
-    ensures number { result ≡ number_of (exported.exportedRead batch.now grants.now state.old) }
-    ensures bytes { state.new ≡ exported.exportedReadLeaves batch.now grants.now state.old }
+    ensures number { result ≡ number_of (exported.exported_read batch.now grants.now state.old) }
+    ensures bytes { state.new ≡ exported.exported_read_leaves batch.now grants.now state.old }
 {
     if !word_buffers_fine(batch, grants, state) {
         return BAD_BUFFER;
@@ -85,7 +85,7 @@ pub extern "C" fn irangelda_read(batch: &[u8], grants: &[u8], state: &mut [u8]) 
 // needs.
 #[unsafe(no_mangle)]
 pub extern "C" fn irangelda_size(state: &[u8], grants: &[u8]) -> u64
-    ensures number { result ≡ number_of (exported.exportedSize state.now grants.now) }
+    ensures number { result ≡ number_of (exported.exported_size state.now grants.now) }
 {
     if !two_buffers_fine(state, grants) {
         return BAD_BUFFER;
@@ -96,8 +96,8 @@ pub extern "C" fn irangelda_size(state: &[u8], grants: &[u8]) -> u64
 // Writes the batch that reaches a state from the empty state: 13, 1, 2, 12 and 11 in the order of the rules, else 0 and the words written.
 #[unsafe(no_mangle)]
 pub extern "C" fn irangelda_write(state: &[u8], grants: &[u8], out: &mut [u8]) -> u64
-    ensures number { result ≡ number_of (exported.exportedWrite state.now grants.now out.old) }
-    ensures bytes { out.new ≡ exported.exportedWriteLeaves state.now grants.now out.old }
+    ensures number { result ≡ number_of (exported.exported_write state.now grants.now out.old) }
+    ensures bytes { out.new ≡ exported.exported_write_leaves state.now grants.now out.old }
 {
     if !word_buffers_fine(state, grants, out) {
         return BAD_BUFFER;
@@ -108,8 +108,8 @@ pub extern "C" fn irangelda_write(state: &[u8], grants: &[u8], out: &mut [u8]) -
 // Lists a state: 13, 1 and 11, else 0 and the bytes written.
 #[unsafe(no_mangle)]
 pub extern "C" fn irangelda_list(state: &[u8], out: &mut [u8]) -> u64
-    ensures number { result ≡ number_of (exported.exportedList state.now out.old) }
-    ensures bytes { out.new ≡ exported.exportedListLeaves state.now out.old }
+    ensures number { result ≡ number_of (exported.exported_list state.now out.old) }
+    ensures bytes { out.new ≡ exported.exported_list_leaves state.now out.old }
 {
     if !text_buffers_fine(state, out) {
         return BAD_BUFFER;
@@ -120,8 +120,8 @@ pub extern "C" fn irangelda_list(state: &[u8], out: &mut [u8]) -> u64
 // Reads a listing back: 13, 1 and 19, else 0 and the listing's length. The state is changed only if the whole text is a listing.
 #[unsafe(no_mangle)]
 pub extern "C" fn irangelda_read_listing(listing: &[u8], state: &mut [u8]) -> u64
-    ensures number { result ≡ number_of (exported.exportedReadListing listing.now state.old) }
-    ensures bytes { state.new ≡ exported.exportedReadListingLeaves listing.now state.old }
+    ensures number { result ≡ number_of (exported.exported_read_listing listing.now state.old) }
+    ensures bytes { state.new ≡ exported.exported_read_listing_leaves listing.now state.old }
 {
     if !text_buffers_fine(state, listing) {
         return BAD_BUFFER;
@@ -133,7 +133,7 @@ pub extern "C" fn irangelda_read_listing(listing: &[u8], state: &mut [u8]) -> u6
 // number.
 #[unsafe(no_mangle)]
 pub extern "C" fn irangelda_which_grant(state: &[u8], grants: &[u8], cell: u32) -> u64
-    ensures number { result ≡ number_of (exported.exportedWhichGrant state.now grants.now (registers.cell cell)) }
+    ensures number { result ≡ number_of (exported.exported_which_grant state.now grants.now (registers.cell cell)) }
 {
     if !two_buffers_fine(state, grants) {
         return BAD_BUFFER;

@@ -1,14 +1,14 @@
 // What speaks against a word by its position: a parameter of a group, a word of a run. What each row of the table asks is in
 // `rows_3d` and `rows_video`.
 ghost use Rattle.std.specs.Prelude.{◌≡◌, ℕ, ◌+◌, ◌≤◌, ◌<◌, ◌^◌};
-ghost use Rattle.meaning.specs.Registers.{firstVideo, cell, registerAt};
-ghost use Rattle.meaning.specs.Grants.{Terms, mostGrants};
-ghost use Rattle.meaning.specs.Reader.{valueReason};
+ghost use Rattle.meaning.specs.Registers.{first_video, cell, register_at};
+ghost use Rattle.meaning.specs.Grants.{Terms, most_grants};
+ghost use Rattle.meaning.specs.Reader.{value_reason};
 ghost use Rattle.grants.specs.Kept.{Granting};
 ghost use Rattle.rows_video.specs.Scalers as scalers;
 ghost use Rattle.headers.specs.declared.Group.TheVariants as groups;
-ghost use Rattle.headers.specs.Told.{cellIn, IsGroup};
-ghost use Rattle.judging.specs.Judged.{judgedIn};
+ghost use Rattle.headers.specs.Told.{cell_in, IsGroup};
+ghost use Rattle.judging.specs.Judged.{judged_in};
 
 use grants::{Numbers, Part, Spans};
 use headers::Group;
@@ -41,8 +41,8 @@ fn judge_target(
     part: Part,
 ) -> Judged
     requires narrow { value < 2 ^ 24 }
-    requires inside { part.to ≤ mostGrants }
-    ensures judged { (g : Terms) → Granting g 1 starts.now lasts.now part → result ≡ judgedIn g (cellIn groups.Target address) value }
+    requires inside { part.to ≤ most_grants }
+    ensures judged { (g : Terms) → Granting g 1 starts.now lasts.now part → result ≡ judged_in g (cell_in groups.Target address) value }
 {
     let a = address.0;
     match a {
@@ -60,7 +60,7 @@ fn judge_target(
 // The same under 02.0n, where `base` is the cell of the stage's first register,
 fn judge_stage(base: Cell, address: SubAddress, value: u32) -> Judged
     requires stage { IsGroup (groups.Stage base) }
-    ensures judged { (g : Terms) → result ≡ judgedIn g (cellIn (groups.Stage base) address) value }
+    ensures judged { (g : Terms) → result ≡ judged_in g (cell_in (groups.Stage base) address) value }
 {
     let a = address.0;
     match a {
@@ -73,7 +73,7 @@ fn judge_stage(base: Cell, address: SubAddress, value: u32) -> Judged
 // and under 02.2n.
 fn judge_sample(base: Cell, address: SubAddress, value: u32) -> Judged
     requires sample { IsGroup (groups.Sample base) }
-    ensures judged { (g : Terms) → result ≡ judgedIn g (cellIn (groups.Sample base) address) value }
+    ensures judged { (g : Terms) → result ≡ judged_in g (cell_in (groups.Sample base) address) value }
 {
     let a = address.0;
     match a {
@@ -96,8 +96,8 @@ pub fn judge_parameter(
 ) -> Judged
     requires group { IsGroup group }
     requires narrow { value < 2 ^ 24 }
-    requires inside { part.to ≤ mostGrants }
-    ensures judged { (g : Terms) → Granting g 1 starts.now lasts.now part → result ≡ judgedIn g (cellIn group address) value }
+    requires inside { part.to ≤ most_grants }
+    ensures judged { (g : Terms) → Granting g 1 starts.now lasts.now part → result ≡ judged_in g (cell_in group address) value }
 {
     match group {
         Group::Sample(base) => judge_sample(base, address, value),
@@ -110,7 +110,7 @@ pub fn judge_parameter(
 // A word for 2208, 220C or 2210: 7 and 8.
 pub fn overlay_reason(index: usize, value: u32) -> u32
     requires three { index < 3 }
-    ensures reason { (g : Terms) → result ≡ valueReason g (registerAt (cell (firstVideo + index))) value }
+    ensures reason { (g : Terms) → result ≡ value_reason g (register_at (cell (first_video + index))) value }
 {
     match index {
         0..=1 => rows_video::overlay_reason(value),
@@ -128,8 +128,8 @@ pub fn scaler_reason(
     part: Part,
 ) -> u32
     requires seven { index < 7 }
-    requires inside { part.to ≤ mostGrants }
-    ensures reason { (g : Terms) (c role : ℕ) → scalers.Scaler c role → Granting g role starts.now lasts.now part → result ≡ valueReason g (registerAt (cell (c + index))) value }
+    requires inside { part.to ≤ most_grants }
+    ensures reason { (g : Terms) (c role : ℕ) → scalers.Scaler c role → Granting g role starts.now lasts.now part → result ≡ value_reason g (register_at (cell (c + index))) value }
 {
     match index {
         0 => rows_video::deinterlace_reason(value),

@@ -17,12 +17,12 @@ use Rattle.meaning.specs.declared.Memory.{Memory}
 use Rattle.meaning.specs.declared.Memory.TheVariants.{Either, Only}
 use Rattle.meaning.specs.declared.Which.{Which}
 use Rattle.meaning.specs.declared.Which.TheVariants as by
-use Rattle.meaning.specs.Grants.{Grant, mostGrants, grantsOf, grantsFine, liesIn, covers, granted, whichFrom, termsOf}
-use Rattle.grants.specs.Kept.{Keeps, Bounded, Names, bearing, number_in, liesAs, spansAt, coversAt, whichKept, whichIn, part_of}
-use Rattle.numbering.proofs.Grants.{length-grants, fine-list}
-use Rattle.grants.proofs.Keeping.{same_test, names-keep}
-use Rattle.keeping.specs.Keeping.{Kept, place, placeAll, beginnings, begunBy, keptOf}
-use Rattle.keeping.proofs.Room.{with-own, noted-0, noted-1, noted-else, empty-first, longer, same-beginning, same_end, next-end, Ready, ready-first, place_kept, place-past, first_fine, first-room, ready-next}
+use Rattle.meaning.specs.Grants.{Grant, most_grants, grants_of, grants_fine, lies_in, covers, granted, which_from, terms_of}
+use Rattle.grants.specs.Kept.{Keeps, Bounded, Names, bearing, number_in, lies_as, spans_at, covers_at, which_kept, which_in, part_of}
+use Rattle.numbering.proofs.Grants.{length_grants, fine_list}
+use Rattle.grants.proofs.Keeping.{same_test, names_keep}
+use Rattle.keeping.specs.Keeping.{Kept, place, place_all, beginnings, begun_by, kept_of}
+use Rattle.keeping.proofs.Room.{with_own, noted_0, noted_1, noted_else, empty_first, longer, same_beginning, same_end, next_end, Ready, ready_first, place_kept, place_past, first_fine, first_room, ready_next}
 
 -- ---- addresses
 
@@ -54,90 +54,90 @@ or_else by.Nobody w = w
 abbrev only_if : Bool → ℕ → Which
 only_if b n = cond b (by.Grant n) by.Nobody
 
-else-nobody : (w : Which) → or_else w by.Nobody ≡ w
-else-nobody (by.Grant n) = refl
-else-nobody by.Nobody = refl
+else_nobody : (w : Which) → or_else w by.Nobody ≡ w
+else_nobody (by.Grant n) = refl
+else_nobody by.Nobody = refl
 
-else-assoc : (u v w : Which) → or_else (or_else u v) w ≡ or_else u (or_else v w)
-else-assoc (by.Grant n) v w = refl
-else-assoc by.Nobody v w = refl
+else_assoc : (u v w : Which) → or_else (or_else u v) w ≡ or_else u (or_else v w)
+else_assoc (by.Grant n) v w = refl
+else_assoc by.Nobody v w = refl
 
-cond-else : (b : Bool) (n : ℕ) (w : Which) → cond b (by.Grant n) w ≡ or_else (only_if b n) w
-cond-else true n w = refl
-cond-else false n w = refl
+cond_else : (b : Bool) (n : ℕ) (w : Which) → cond b (by.Grant n) w ≡ or_else (only_if b n) w
+cond_else true n w = refl
+cond_else false n w = refl
 
 -- ---- parts
 
 -- a part with one grant more behind it
-which-more : (starts lasts numbers : List ℕ) (i n : ℕ) (m : Memory) (a : ℕ)
-    → whichKept starts lasts numbers i (suc n) m a
-    ≡ or_else (whichKept starts lasts numbers i n m a) (only_if (coversAt starts lasts numbers (i + n) m a) (number_in (get_or numbers (i + n) 0)))
-unfolding whichKept
-which-more starts lasts numbers i zero m a = let e : i + 0 ≡ i = omega arith in rw e
-which-more starts lasts numbers i (suc n) m a =
+which_more : (starts lasts numbers : List ℕ) (i n : ℕ) (m : Memory) (a : ℕ)
+    → which_kept starts lasts numbers i (suc n) m a
+    ≡ or_else (which_kept starts lasts numbers i n m a) (only_if (covers_at starts lasts numbers (i + n) m a) (number_in (get_or numbers (i + n) 0)))
+unfolding which_kept
+which_more starts lasts numbers i zero m a = let e : i + 0 ≡ i = omega arith in rw e
+which_more starts lasts numbers i (suc n) m a =
     let e : i + suc n ≡ suc i + n = omega arith in
-    let here = coversAt starts lasts numbers i m a in
+    let here = covers_at starts lasts numbers i m a in
     let number = number_in (get_or numbers i 0) in
-    let rest = whichKept starts lasts numbers (suc i) n m a in
-    rw (e, which-more starts lasts numbers (suc i) n m a, cond-else here number rest)
-    (cond-else here number _ ∙ sym (else-assoc (only_if here number) rest _))
+    let rest = which_kept starts lasts numbers (suc i) n m a in
+    rw (e, which_more starts lasts numbers (suc i) n m a, cond_else here number rest)
+    (cond_else here number _ ∙ sym (else_assoc (only_if here number) rest _))
 
 -- a part does not change with what is kept outside it
-which-still : (starts lasts numbers : List ℕ) (at first last byte i n : ℕ) (m : Memory) (a : ℕ) → ((j : ℕ) → i ≤ j → j < i + n → j ≢ at)
-    → whichKept (set starts at first) (set lasts at last) (set numbers at byte) i n m a ≡ whichKept starts lasts numbers i n m a
-unfolding whichKept coversAt spansAt
-which-still starts lasts numbers at first last byte i zero m a out = refl
-which-still starts lasts numbers at first last byte i (suc n) m a out =
+which_still : (starts lasts numbers : List ℕ) (at first last byte i n : ℕ) (m : Memory) (a : ℕ) → ((j : ℕ) → i ≤ j → j < i + n → j ≢ at)
+    → which_kept (set starts at first) (set lasts at last) (set numbers at byte) i n m a ≡ which_kept starts lasts numbers i n m a
+unfolding which_kept covers_at spans_at
+which_still starts lasts numbers at first last byte i zero m a out = refl
+which_still starts lasts numbers at first last byte i (suc n) m a out =
     let here : i ≢ at = out i (omega arith) (omega arith) in
     rw (
       get_or-set_other starts at i first 0 here,
       get_or-set_other lasts at i last 0 here,
       get_or-set_other numbers at i byte 0 here,
-      which-still starts lasts numbers at first last byte (suc i) n m a (λ j p q. out j (omega arith) (omega arith)),
+      which_still starts lasts numbers at first last byte (suc i) n m a (λ j p q. out j (omega arith) (omega arith)),
     )
 
 -- a grant kept behind a part is told with it
-which-grown : (starts lasts numbers : List ℕ) (from at first last byte : ℕ) (m : Memory) (a : ℕ) → from ≤ at → at < length starts → at < length lasts → at < length numbers
-    → whichKept (set starts at first) (set lasts at last) (set numbers at byte) from (at + 1 - from) m a
-    ≡ or_else (whichKept starts lasts numbers from (at - from) m a) (only_if ((leb first a && leb a last) && liesAs m byte) (number_in byte))
-unfolding coversAt spansAt
-which-grown starts lasts numbers from at first last byte m a before s l k =
+which_grown : (starts lasts numbers : List ℕ) (from at first last byte : ℕ) (m : Memory) (a : ℕ) → from ≤ at → at < length starts → at < length lasts → at < length numbers
+    → which_kept (set starts at first) (set lasts at last) (set numbers at byte) from (at + 1 - from) m a
+    ≡ or_else (which_kept starts lasts numbers from (at - from) m a) (only_if ((leb first a && leb a last) && lies_as m byte) (number_in byte))
+unfolding covers_at spans_at
+which_grown starts lasts numbers from at first last byte m a before s l k =
     let one : at + 1 - from ≡ suc (at - from) = omega arith in
     let behind : from + (at - from) ≡ at = omega arith in
     rw one
-    (which-more (set starts at first) (set lasts at last) (set numbers at byte) from (at - from) m a
+    (which_more (set starts at first) (set lasts at last) (set numbers at byte) from (at - from) m a
     ∙ rw (
       behind,
       get_or-set_same starts at first 0 s,
       get_or-set_same lasts at last 0 l,
       get_or-set_same numbers at byte 0 k,
-      which-still starts lasts numbers at first last byte from (at - from) m a (λ j p q e. omega arith),
+      which_still starts lasts numbers at first last byte from (at - from) m a (λ j p q e. omega arith),
     ))
 
 -- ---- the byte of a grant
 
 -- it bears the number of one of 64 grants, and the memory
-number-borne : (n memory : ℕ) → n < 64 → number_in (bearing n memory) ≡ n
-number-borne n memory few = omega arith
+number_borne : (n memory : ℕ) → n < 64 → number_in (bearing n memory) ≡ n
+number_borne n memory few = omega arith
 
-memory-borne : (m : Memory) (n : ℕ) (g : Grant) → n < 64 → liesAs m (bearing n g.memory) ≡ liesIn m g
-memory-borne Either n g few = refl
-memory-borne (Only m) n g few = let e : bearing n g.memory / 64 ≡ g.memory = omega arith in rw e
+memory_borne : (m : Memory) (n : ℕ) (g : Grant) → n < 64 → lies_as m (bearing n g.memory) ≡ lies_in m g
+memory_borne Either n g few = refl
+memory_borne (Only m) n g few = let e : bearing n g.memory / 64 ≡ g.memory = omega arith in rw e
 
 -- ---- grants kept
 
 -- what the part of a role tells
 abbrev held : Kept → ℕ → Memory → ℕ → Which
-held k role m a = whichIn k.starts k.lasts k.numbers (part_of k.bounds role) m a
+held k role m a = which_in k.starts k.lasts k.numbers (part_of k.bounds role) m a
 
 -- the room for addresses and numbers
 record Wide (k : Kept) : Type 0 where
-  starts : length k.starts ≡ mostGrants
-  lasts : length k.lasts ≡ mostGrants
-  numbers : length k.numbers ≡ mostGrants
+  starts : length k.starts ≡ most_grants
+  lasts : length k.lasts ≡ most_grants
+  numbers : length k.numbers ≡ most_grants
 
-wide-next : (n : ℕ) (g : Grant) (k : Kept) → Wide k → Wide (place n g k)
-wide-next n g k wide =
+wide_next : (n : ℕ) (g : Grant) (k : Kept) → Wide k → Wide (place n g k)
+wide_next n g k wide =
     elim (dec_le g.reach g.length) [
       | yes h ↦ rw (place_kept n g k (le-leb g.reach g.length h))
           (record {
@@ -145,7 +145,7 @@ wide-next n g k wide =
             lasts = length-set k.lasts _ _ ∙ wide.lasts;
             numbers = length-set k.numbers _ _ ∙ wide.numbers;
           })
-      | no h ↦ rw (place-past n g k (lt-leb g.reach g.length (omega arith))) wide
+      | no h ↦ rw (place_past n g k (lt-leb g.reach g.length (omega arith))) wide
     ]
 
 -- the next grant, where there is room for it: the part of its role tells it behind what it told, and the others tell what they did
@@ -156,24 +156,24 @@ module _ (n : ℕ) (few : n < 64) (g : Grant) (gs : List Grant) (k : Kept) (read
       let rules = first_fine n g k gs ready in
       let high : g.role < 4 = omega (arith, rules.high) in
       let room = ready.room in
-      let there = first-room n g k gs ready in
+      let there = first_room n g k gs ready in
       rw (
         place_kept n g k (le-leb g.reach g.length fits),
-        noted-else g.memory (longer g k.bounds) g.role (λ e. omega arith),
-        noted-else g.memory (longer g k.bounds) (4 + g.role) (λ e. omega (arith, rules.low)),
-        same-beginning g gs k.bounds room high g.role high,
-        next-end g gs k.bounds room high,
+        noted_else g.memory (longer g k.bounds) g.role (λ e. omega arith),
+        noted_else g.memory (longer g k.bounds) (4 + g.role) (λ e. omega (arith, rules.low)),
+        same_beginning g gs k.bounds room high g.role high,
+        next_end g gs k.bounds room high,
         eq-eqb g.role g.role refl,
         spanned g.start g.length g.reach a fits,
-        and_comm (liesIn m g),
+        and_comm (lies_in m g),
       )
-      (which-grown k.starts k.lasts k.numbers (get_or k.bounds g.role 0) (get_or k.bounds (4 + g.role) 0) g.start (g.start + (g.length - g.reach))
+      (which_grown k.starts k.lasts k.numbers (get_or k.bounds g.role 0) (get_or k.bounds (4 + g.role) 0) g.start (g.start + (g.length - g.reach))
       (bearing n g.memory) m a
       (room.begun g.role high)
       (omega (arith, there, wide.starts))
       (omega (arith, there, wide.lasts))
       (omega (arith, there, wide.numbers))
-      ∙ rw (number-borne n g.memory few, memory-borne m n g few))
+      ∙ rw (number_borne n g.memory few, memory_borne m n g few))
 
   other : g.reach ≤ g.length → (role : ℕ) → 1 ≤ role → role < 4 → (g.role ≡ role → ⊥)
       → held (place n g k) role m a ≡ or_else (held k role m a) (only_if (covers m role a g) n)
@@ -184,18 +184,18 @@ module _ (n : ℕ) (few : n < 64) (g : Grant) (gs : List Grant) (k : Kept) (read
       let room = ready.room in
       rw (
         place_kept n g k (le-leb g.reach g.length fits),
-        noted-else g.memory (longer g k.bounds) role (λ e. omega arith),
-        noted-else g.memory (longer g k.bounds) (4 + role) (λ e. omega arith),
-        same-beginning g gs k.bounds room its role high,
+        noted_else g.memory (longer g k.bounds) role (λ e. omega arith),
+        noted_else g.memory (longer g k.bounds) (4 + role) (λ e. omega arith),
+        same_beginning g gs k.bounds room its role high,
         same_end g gs k.bounds room its role apart,
         ne_eqb g.role role apart,
         and-false,
-        else-nobody,
+        else_nobody,
       )
-      (which-still k.starts k.lasts k.numbers _ _ _ _ _ _ m a
+      (which_still k.starts k.lasts k.numbers _ _ _ _ _ _ m a
       (λ j from to here.
       elim (dec_le g.role role) [
-        | yes h ↦ omega (arith, room.apart g.role role fine.low (omega arith) high, with-own g gs g.role refl)
+        | yes h ↦ omega (arith, room.apart g.role role fine.low (omega arith) high, with_own g gs g.role refl)
         | no h ↦ omega (arith, room.apart role g.role low (omega arith) its, room.begun g.role its, room.begun role high)
       ]))
 
@@ -206,133 +206,133 @@ module _ (n : ℕ) (few : n < 64) (g : Grant) (gs : List Grant) (k : Kept) (read
         | yes fits ↦ elim (ℕ_discrete g.role role) [ yes e ↦ rw (← e) (own fits) | no apart ↦ other fits role low high apart ]
         | no h ↦
             let short : g.length < g.reach = omega arith in
-            rw (place-past n g k (lt-leb g.reach g.length short), empty g.start g.length g.reach a short, and-false, and-false, else-nobody)
+            rw (place_past n g k (lt-leb g.reach g.length short), empty g.start g.length g.reach a short, and-false, and-false, else_nobody)
       ]
 
 -- all of them
-all-ready : (n : ℕ) (gs : List Grant) (k : Kept) → Ready gs k.bounds → Ready [] (placeAll n gs k).bounds
-unfolding placeAll
-all-ready n [] k ready = ready
-all-ready n (g ∷ gs) k ready = all-ready (suc n) gs (place n g k) (ready-next n g k gs ready)
+all_ready : (n : ℕ) (gs : List Grant) (k : Kept) → Ready gs k.bounds → Ready [] (place_all n gs k).bounds
+unfolding place_all
+all_ready n [] k ready = ready
+all_ready n (g ∷ gs) k ready = all_ready (suc n) gs (place n g k) (ready_next n g k gs ready)
 
-all-gained : (n : ℕ) (gs : List Grant) → n + length gs ≤ 64 → (k : Kept) → Ready gs k.bounds → Wide k
-    → (m : Memory) (role : ℕ) → 1 ≤ role → role < 4 → (a : ℕ) → held (placeAll n gs k) role m a ≡ or_else (held k role m a) (whichFrom n gs m role a)
-unfolding placeAll whichFrom
-all-gained n [] few k ready wide m role low high a = sym (else-nobody (held k role m a))
-all-gained n (g ∷ gs) few k ready wide m role low high a =
-    let rest = whichFrom (suc n) gs m role a in
-    all-gained (suc n) gs (omega arith) (place n g k) (ready-next n g k gs ready) (wide-next n g k wide) m role low high a
-    ∙ rw (gained n (omega arith) g gs k ready wide m a role low high, cond-else (covers m role a g) n rest)
-    (else-assoc (held k role m a) (only_if (covers m role a g) n) rest)
+all_gained : (n : ℕ) (gs : List Grant) → n + length gs ≤ 64 → (k : Kept) → Ready gs k.bounds → Wide k
+    → (m : Memory) (role : ℕ) → 1 ≤ role → role < 4 → (a : ℕ) → held (place_all n gs k) role m a ≡ or_else (held k role m a) (which_from n gs m role a)
+unfolding place_all which_from
+all_gained n [] few k ready wide m role low high a = sym (else_nobody (held k role m a))
+all_gained n (g ∷ gs) few k ready wide m role low high a =
+    let rest = which_from (suc n) gs m role a in
+    all_gained (suc n) gs (omega arith) (place n g k) (ready_next n g k gs ready) (wide_next n g k wide) m role low high a
+    ∙ rw (gained n (omega arith) g gs k ready wide m a role low high, cond_else (covers m role a g) n rest)
+    (else_assoc (held k role m a) (only_if (covers m role a g) n) rest)
 
 -- no part tells anything at first
-none-held : (gs : List Grant) (starts lasts numbers : List ℕ) (role : ℕ) → 1 ≤ role → role < 4 → (m : Memory) (a : ℕ)
-    → whichIn starts lasts numbers (part_of (beginnings gs) role) m a ≡ by.Nobody
-unfolding whichKept
-none-held gs starts lasts numbers role low high m a =
+none_held : (gs : List Grant) (starts lasts numbers : List ℕ) (role : ℕ) → 1 ≤ role → role < 4 → (m : Memory) (a : ℕ)
+    → which_in starts lasts numbers (part_of (beginnings gs) role) m a ≡ by.Nobody
+unfolding which_kept
+none_held gs starts lasts numbers role low high m a =
     let none : get_or (beginnings gs) role 0 - get_or (beginnings gs) role 0 ≡ 0 = omega arith in
-    rw (empty-first gs role low high, none)
+    rw (empty_first gs role low high, none)
 
 -- where nothing is noted of the list, nothing was noted before, and what a grant covers it covers in memory 0
-near-one : (n : ℕ) (g : Grant) (gs : List Grant) (k : Kept) → Ready (g ∷ gs) k.bounds → get_or (place n g k).bounds 4 0 ≡ 0
+near_one : (n : ℕ) (g : Grant) (gs : List Grant) (k : Kept) → Ready (g ∷ gs) k.bounds → get_or (place n g k).bounds 4 0 ≡ 0
     → (get_or k.bounds 4 0 ≡ 0) × ((role a : ℕ) → covers (Only 0) role a g ≡ covers Either role a g)
 unfolding covers
-near-one n g gs k ready none =
+near_one n g gs k ready none =
     elim (dec_le g.reach g.length) [
       | yes fits ↦
           let rules = first_fine n g k gs ready in
           let noted = rw (place_kept n g k (le-leb g.reach g.length fits)) at none in
           elim (ℕ_discrete g.memory 0) [
             | yes e ↦ (
-              sym (get_or-set_other k.bounds (4 + g.role) 4 _ 0 (λ f. omega (arith, rules.low))) ∙ (rw (noted-0 g.memory (longer g k.bounds) e) at noted),
+              sym (get_or-set_other k.bounds (4 + g.role) 4 _ 0 (λ f. omega (arith, rules.low))) ∙ (rw (noted_0 g.memory (longer g k.bounds) e) at noted),
               λ role a. rw e,
             )
             | no m ↦ absurd (omega (
               arith,
-              rw (noted-1 g.memory (longer g k.bounds) m) at noted,
+              rw (noted_1 g.memory (longer g k.bounds) m) at noted,
               get_or-set_same (longer g k.bounds) 4 1 0 (omega (arith, length-set k.bounds (4 + g.role) (get_or k.bounds (4 + g.role) 0 + 1), ready.room.long)),
             ))
           ]
       | no h ↦
           let short : g.length < g.reach = omega arith in (
-            rw (place-past n g k (lt-leb g.reach g.length short)) at none,
+            rw (place_past n g k (lt-leb g.reach g.length short)) at none,
             λ role a. rw (empty g.start g.length g.reach a short, and-false, and-false),
           )
     ]
 
 -- so an address is granted in memory 0 if it is at all
-all_near : (n : ℕ) (gs : List Grant) (k : Kept) → Ready gs k.bounds → get_or (placeAll n gs k).bounds 4 0 ≡ 0
+all_near : (n : ℕ) (gs : List Grant) (k : Kept) → Ready gs k.bounds → get_or (place_all n gs k).bounds 4 0 ≡ 0
     → (get_or k.bounds 4 0 ≡ 0) × ((role a : ℕ) → granted gs (Only 0) role a ≡ granted gs Either role a)
-unfolding placeAll granted some
+unfolding place_all granted some
 all_near n [] k ready none = (none, λ role a. refl)
 all_near n (g ∷ gs) k ready none =
-    let rest = all_near (suc n) gs (place n g k) (ready-next n g k gs ready) none in
-    let here = near-one n g gs k ready rest.0 in
+    let rest = all_near (suc n) gs (place n g k) (ready_next n g k gs ready) none in
+    let here = near_one n g gs k ready rest.0 in
     (here.0, λ role a. rw (here.1 role a, rest.1 role a))
 
 -- ---- a list kept
 
 -- the room that is lent
 abbrev pub Lent : List ℕ → List ℕ → List ℕ → Type 0
-Lent starts lasts numbers = (length starts ≡ mostGrants) × ((length lasts ≡ mostGrants) × (length numbers ≡ mostGrants))
+Lent starts lasts numbers = (length starts ≡ most_grants) × ((length lasts ≡ most_grants) × (length numbers ≡ most_grants))
 
-module _ (ws starts lasts numbers : List ℕ) (fine : grantsFine ws ≡ true) where
+module _ (ws starts lasts numbers : List ℕ) (fine : grants_fine ws ≡ true) where
   abbrev gs : List Grant
-  gs = grantsOf ws
+  gs = grants_of ws
 
   abbrev begun : Kept
   begun = record { starts = starts; lasts = lasts; numbers = numbers; bounds = beginnings gs }
 
   -- all that is kept
   abbrev all : Kept
-  all = keptOf gs starts lasts numbers
+  all = kept_of gs starts lasts numbers
 
   ready : Ready gs begun.bounds
-  ready = ready-first ws (holds_of fine)
+  ready = ready_first ws (holds_of fine)
 
   -- what is kept of a list that keeps its rules names its grants,
-  pub names : Lent starts lasts numbers → Names (termsOf ws) all.starts all.lasts all.numbers all.bounds
-  unfolding keptOf
+  pub names : Lent starts lasts numbers → Names (terms_of ws) all.starts all.lasts all.numbers all.bounds
+  unfolding kept_of
   names lent =
       let wide : Wide begun = record { starts = lent.0; lasts = lent.1.0; numbers = lent.1.1 } in
-      let few : 0 + length gs ≤ 64 = omega (arith, length-grants ws, (fine-list ws (holds_of fine)).1) in
-      λ m role low high a. sym (all-gained 0 gs few begun ready wide m role low high a ∙ rw (none-held gs starts lasts numbers role low high m a))
+      let few : 0 + length gs ≤ 64 = omega (arith, length_grants ws, (fine_list ws (holds_of fine)).1) in
+      λ m role low high a. sym (all_gained 0 gs few begun ready wide m role low high a ∙ rw (none_held gs starts lasts numbers role low high m a))
 
   -- inside the room,
   pub bounded : Bounded all.bounds
-  unfolding keptOf
-  bounded role high = omega (arith, (all-ready 0 gs begun ready).room.inside role high)
+  unfolding kept_of
+  bounded role high = omega (arith, (all_ready 0 gs begun ready).room.inside role high)
 
   -- and no part of it ends before it begins
   pub begun_first : (role : ℕ) → role < 4 → get_or all.bounds role 0 ≤ get_or all.bounds (4 + role) 0
-  unfolding keptOf
-  begun_first role high = (all-ready 0 gs begun ready).room.begun role high
+  unfolding kept_of
+  begun_first role high = (all_ready 0 gs begun ready).room.begun role high
 
   -- where no kept grant is in memory 1, memory 0 is all there is
   pub near : get_or all.bounds 4 0 ≡ 0 → (role a : ℕ) → granted gs (Only 0) role a ≡ granted gs Either role a
-  unfolding keptOf
+  unfolding kept_of
   near none = (all_near 0 gs begun ready none).1
 
 -- what `begin` makes of a list that keeps its rules
-pub begun-by : (ws : List ℕ) → grantsFine ws ≡ true → begunBy ws ≡ beginnings (grantsOf ws)
-unfolding begunBy
-begun-by ws fine = rw fine
+pub begun_by_lem : (ws : List ℕ) → grants_fine ws ≡ true → begun_by ws ≡ beginnings (grants_of ws)
+unfolding begun_by
+begun_by_lem ws fine = rw fine
 
 -- what `place` leaves of a list in the room for starts, lasts, numbers and bounds
 abbrev pub KeptFrom : List ℕ → List ℕ → List ℕ → List ℕ → List ℕ → List ℕ → List ℕ → List ℕ → Type 0
 KeptFrom ws starts lasts numbers s l n b =
-    let k = keptOf (grantsOf ws) starts lasts numbers in
+    let k = kept_of (grants_of ws) starts lasts numbers in
     (s ≡ k.starts) × ((l ≡ k.lasts) × ((n ≡ k.numbers) × (b ≡ k.bounds)))
 
 -- names the grants of a list that keeps its rules, and keeps them
-module _ (ws starts lasts numbers : List ℕ) (lent : Lent starts lasts numbers) (fine : grantsFine ws ≡ true) {s l n b : List ℕ}
+module _ (ws starts lasts numbers : List ℕ) (lent : Lent starts lasts numbers) (fine : grants_fine ws ≡ true) {s l n b : List ℕ}
     (kept : KeptFrom ws starts lasts numbers s l n b) where
-  pub names-after : Names (termsOf ws) s l n b × Bounded b
-  names-after = rw (kept.0, kept.1.0, kept.1.1.0, kept.1.1.1) (names ws starts lasts numbers fine lent, bounded ws starts lasts numbers fine)
+  pub names_after : Names (terms_of ws) s l n b × Bounded b
+  names_after = rw (kept.0, kept.1.0, kept.1.1.0, kept.1.1.1) (names ws starts lasts numbers fine lent, bounded ws starts lasts numbers fine)
 
-  pub kept-after : Keeps (termsOf ws) s l b × Bounded b
-  kept-after = (names-keep (termsOf ws) s l n b names-after.0, names-after.1)
+  pub kept_after : Keeps (terms_of ws) s l b × Bounded b
+  kept_after = (names_keep (terms_of ws) s l n b names_after.0, names_after.1)
 
   -- and where none is in memory 1, memory 0 is all there is
-  pub near-after : get_or b 4 0 ≡ 0 → (role a : ℕ) → granted (grantsOf ws) (Only 0) role a ≡ granted (grantsOf ws) Either role a
-  near-after none = near ws starts lasts numbers fine (ap (λ (x : List ℕ). get_or x 4 0) (sym kept.1.1.1) ∙ none)
+  pub near_after : get_or b 4 0 ≡ 0 → (role a : ℕ) → granted (grants_of ws) (Only 0) role a ≡ granted (grants_of ws) Either role a
+  near_after none = near ws starts lasts numbers fine (ap (λ (x : List ℕ). get_or x 4 0) (sym kept.1.1.1) ∙ none)

@@ -2,7 +2,7 @@
 -- memory.
 -- Assumes nothing.
 use Rattle.std.specs.Prelude.{cond, List, [], ◌∷◌, ℕ, suc, ◌+◌, ◌-◌, leb, eqb, get_or, set}
-use Rattle.meaning.specs.Grants.{Grant, grantsOf, grantsFine}
+use Rattle.meaning.specs.Grants.{Grant, grants_of, grants_fine}
 use Rattle.grants.specs.Kept.{bearing}
 
 -- the whole of it
@@ -30,33 +30,33 @@ place n g k =
     k
 
 -- one grant after another, from number n on
-unfoldable pub placeAll : ℕ → List Grant → Kept → Kept
-placeAll n [] k = k
-placeAll n (g ∷ gs) k = placeAll (suc n) gs (place n g k)
+unfoldable pub place_all : ℕ → List Grant → Kept → Kept
+place_all n [] k = k
+place_all n (g ∷ gs) k = place_all (suc n) gs (place n g k)
 
 -- how many grants have the role
-unfoldable pub withRole : ℕ → List Grant → ℕ
-withRole role [] = 0
-withRole role (g ∷ gs) = let more = withRole role gs in cond (eqb g.role role) (suc more) more
+unfoldable pub with_role : ℕ → List Grant → ℕ
+with_role role [] = 0
+with_role role (g ∷ gs) = let more = with_role role gs in cond (eqb g.role role) (suc more) more
 
 -- nothing is counted, and nothing is kept
-abbrev pub noCounts : List ℕ
-noCounts = 0 ∷ 0 ∷ 0 ∷ 0 ∷ []
+abbrev pub no_counts : List ℕ
+no_counts = 0 ∷ 0 ∷ 0 ∷ 0 ∷ []
 
-abbrev pub noBounds : List ℕ
-noBounds = 0 ∷ 0 ∷ 0 ∷ 0 ∷ 0 ∷ 0 ∷ 0 ∷ 0 ∷ []
+abbrev pub no_bounds : List ℕ
+no_bounds = 0 ∷ 0 ∷ 0 ∷ 0 ∷ 0 ∷ 0 ∷ 0 ∷ 0 ∷ []
 
 -- each role's part begins behind those before it, and is empty; nothing is noted
 unfoldable pub beginnings : List Grant → List ℕ
 beginnings gs =
-    let second = withRole 1 gs in
-    let third = withRole 1 gs + withRole 2 gs in
+    let second = with_role 1 gs in
+    let third = with_role 1 gs + with_role 2 gs in
     0 ∷ 0 ∷ second ∷ third ∷ 0 ∷ 0 ∷ second ∷ third ∷ []
 
 -- the beginnings of a list that keeps its rules; else nothing is begun
-unfoldable pub begunBy : List ℕ → List ℕ
-begunBy ws = cond (grantsFine ws) (beginnings (grantsOf ws)) noBounds
+unfoldable pub begun_by : List ℕ → List ℕ
+begun_by ws = cond (grants_fine ws) (beginnings (grants_of ws)) no_bounds
 
 -- the grants of a list kept, over what stood in the room for them
-unfoldable pub keptOf : List Grant → List ℕ → List ℕ → List ℕ → Kept
-keptOf gs starts lasts numbers = placeAll 0 gs (record { starts = starts; lasts = lasts; numbers = numbers; bounds = beginnings gs })
+unfoldable pub kept_of : List Grant → List ℕ → List ℕ → List ℕ → Kept
+kept_of gs starts lasts numbers = place_all 0 gs (record { starts = starts; lasts = lasts; numbers = numbers; bounds = beginnings gs })

@@ -32,8 +32,8 @@ pub ruleset tests = (lt-ltb, le-ltb, le-leb, lt-leb, eq-eqb, ne_eqb, apart, leb-
 pub ruleset spans = (lt-ltb, le-ltb, le-leb, lt-leb, eq-eqb, ne_eqb, apart, leb-zero, up_to, past, below, above)
 
 -- what a callee's answer, tested as `if !f(..)`, tells of the definition that the callee cites
-pub told-true : {r s : Bool} → r ≡ s → not r ≡ false → s ≡ true
-told-true {r} e t = sym e ∙ not-false r t
+pub told_true : {r s : Bool} → r ≡ s → not r ≡ false → s ≡ true
+told_true {r} e t = sym e ∙ not-false r t
 
-pub told-false : {r s : Bool} → r ≡ s → not r ≡ true → s ≡ false
-told-false {r} e t = sym e ∙ not-true r t
+pub told_false : {r s : Bool} → r ≡ s → not r ≡ true → s ≡ false
+told_false {r} e t = sym e ∙ not-true r t

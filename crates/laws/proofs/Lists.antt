@@ -29,9 +29,9 @@ pub all_join {ℓ} : {A : Type ℓ} (P : A → Type 0) (ls : List (List A)) → 
 all_join P [] a = tt
 all_join P (l ∷ ls) a = all_append P l (join ls) a.0 (all_join P ls a.1)
 
-pub all-unit {ℓ} : {A : Type ℓ} (xs : List A) → All (λ x. Unit {0}) xs
-all-unit [] = tt
-all-unit (x ∷ xs) = (tt, all-unit xs)
+pub all_unit {ℓ} : {A : Type ℓ} (xs : List A) → All (λ x. Unit {0}) xs
+all_unit [] = tt
+all_unit (x ∷ xs) = (tt, all_unit xs)
 
 pub all_map {ℓ} : {A : Type ℓ} (P Q : A → Type 0) → ((x : A) → P x → Q x) → (xs : List A) → All P xs → All Q xs
 all_map P Q h [] a = tt
@@ -41,24 +41,24 @@ pub all_both {ℓ} : {A : Type ℓ} (P Q R : A → Type 0) → ((x : A) → P x 
 all_both P Q R h [] a b = tt
 all_both P Q R h (x ∷ xs) a b = (h x a.0 b.0, all_both P Q R h xs a.1 b.1)
 
-pub every-all {ℓ} : {A : Type ℓ} (f : A → Bool) (xs : List A) → T (every f xs) → All (λ x. T (f x)) xs
+pub every_all {ℓ} : {A : Type ℓ} (f : A → Bool) (xs : List A) → T (every f xs) → All (λ x. T (f x)) xs
 unfolding every
-every-all f [] t = tt
-every-all f (x ∷ xs) t = let both = and_yes (f x) _ t in (both.0, every-all f xs both.1)
+every_all f [] t = tt
+every_all f (x ∷ xs) t = let both = and_yes (f x) _ t in (both.0, every_all f xs both.1)
 
 -- ---- numbers in a row
 
-pub every-from : (f : ℕ → Bool) (i n : ℕ) → T (every f (from i n)) → (x : ℕ) → i ≤ x → x < i + n → T (f x)
+pub every_from : (f : ℕ → Bool) (i n : ℕ) → T (every f (from i n)) → (x : ℕ) → i ≤ x → x < i + n → T (f x)
 unfolding every from
-every-from f i zero t x l h = absurd (omega arith)
-every-from f i (suc n) t x l h =
+every_from f i zero t x l h = absurd (omega arith)
+every_from f i (suc n) t x l h =
     let both = and_yes (f i) _ t in
-    elim (ℕ_discrete x i) [ yes e ↦ subst (λ (y : ℕ). T (f y)) (sym e) both.0 | no e ↦ every-from f (suc i) n both.1 x (omega arith) (omega arith) ]
+    elim (ℕ_discrete x i) [ yes e ↦ subst (λ (y : ℕ). T (f y)) (sym e) both.0 | no e ↦ every_from f (suc i) n both.1 x (omega arith) (omega arith) ]
 
-pub from-every : (f : ℕ → Bool) (i n : ℕ) → ((x : ℕ) → i ≤ x → x < i + n → T (f x)) → T (every f (from i n))
+pub from_every : (f : ℕ → Bool) (i n : ℕ) → ((x : ℕ) → i ≤ x → x < i + n → T (f x)) → T (every f (from i n))
 unfolding every from
-from-every f i zero h = tt
-from-every f i (suc n) h = yes_and (f i) _ (h i (omega arith) (omega arith)) (from-every f (suc i) n (λ x l k. h x (omega arith) (omega arith)))
+from_every f i zero h = tt
+from_every f i (suc n) h = yes_and (f i) _ (h i (omega arith) (omega arith)) (from_every f (suc i) n (λ x l k. h x (omega arith) (omega arith)))
 
 -- one of two numbers that follow each other
 pub one_of_two : (P : ℕ → Type 0) (i j k : ℕ) → P i → P j → j ≡ suc i → i ≤ k → k < i + 2 → P k
@@ -71,28 +71,28 @@ one_of_two P i j k p q next low high =
 -- ---- beginnings
 
 -- equally long beginnings of one list are equal, and so is what follows
-pub same-front {ℓ} : {A : Type ℓ} (a b x y : List A) → length a ≡ length b → a ++ x ≡ b ++ y → (a ≡ b) × (x ≡ y)
-same-front a b x y n e = (
+pub same_front {ℓ} : {A : Type ℓ} (a b x y : List A) → length a ≡ length b → a ++ x ≡ b ++ y → (a ≡ b) × (x ≡ y)
+same_front a b x y n e = (
   sym (take_at a x (length b) n) ∙ ap (take (length b)) e ∙ take_at b y (length b) refl,
   sym (drop_at a x (length b) n) ∙ ap (drop (length b)) e ∙ drop_at b y (length b) refl,
 )
 
 -- ---- lists joined
 
-pub join-append {ℓ} : {A : Type ℓ} (ls ms : List (List A)) → join (ls ++ ms) ≡ join ls ++ join ms
-join-append [] ms = refl
-join-append (l ∷ ls) ms = ap (λ (x : List _). l ++ x) (join-append ls ms) ∙ sym (append_assoc l (join ls) (join ms))
+pub join_append {ℓ} : {A : Type ℓ} (ls ms : List (List A)) → join (ls ++ ms) ≡ join ls ++ join ms
+join_append [] ms = refl
+join_append (l ∷ ls) ms = ap (λ (x : List _). l ++ x) (join_append ls ms) ∙ sym (append_assoc l (join ls) (join ms))
 
-pub length-join-append {ℓ} : {A : Type ℓ} (ls ms : List (List A)) → length (join (ls ++ ms)) ≡ length (join ls) + length (join ms)
-length-join-append ls ms = ap length (join-append ls ms) ∙ length-append (join ls) (join ms)
+pub length_join_append {ℓ} : {A : Type ℓ} (ls ms : List (List A)) → length (join (ls ++ ms)) ≡ length (join ls) + length (join ms)
+length_join_append ls ms = ap length (join_append ls ms) ∙ length-append (join ls) (join ms)
 
 -- ---- some element
 
-pub some-iff {ℓ} : {A : Type ℓ} (f : A → Bool) (xs : List A) → T (some f xs) ↔ ((x : A) × Memᴰ x xs × T (f x))
+pub some_iff {ℓ} : {A : Type ℓ} (f : A → Bool) (xs : List A) → T (some f xs) ↔ ((x : A) × Memᴰ x xs × T (f x))
 unfolding some
-some-iff f [] = (λ t. absurd t, λ p. Memᴰ.not-nil p.1)
-some-iff f (x ∷ xs) =
-    let more = some-iff f xs in (
+some_iff f [] = (λ t. absurd t, λ p. Memᴰ.not-nil p.1)
+some_iff f (x ∷ xs) =
+    let more = some_iff f xs in (
       λ t. elim (or_yes (f x) _ t) [ inl h ↦ (x, Memᴰ.head refl, h) | inr h ↦ let s = more.0 h in (s.0, Memᴰ.tail s.1, s.2) ],
       λ p. elim (Memᴰ.cases_cons p.1) [
         | inl e ↦ or_left (f x) (some f xs) (subst (λ y. T (f y)) e p.2)

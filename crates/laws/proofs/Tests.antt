@@ -8,21 +8,21 @@ use lib.Dec.{T, leb}
 use mir.Facts.{and_yes, yes_and, leb_yes, yes_leb}
 use Rattle.laws.specs.Tests.{within, implies}
 
-pub within-iff : (lo hi x : ℕ) → T (within lo hi x) ↔ ((lo ≤ x) × (x ≤ hi))
-within-iff lo hi x = (
+pub within_iff : (lo hi x : ℕ) → T (within lo hi x) ↔ ((lo ≤ x) × (x ≤ hi))
+within_iff lo hi x = (
   λ t. let p = and_yes (leb lo x) _ t in (leb_yes p.0, leb_yes p.1),
   λ p. yes_and (leb lo x) _ (yes_leb p.0) (yes_leb p.1),
 )
 
-pub implies-iff : (a b : Bool) → T (implies a b) ↔ (T a → T b)
-implies-iff true b = (λ x t. x, λ f. f tt)
-implies-iff false b = (λ x t. absurd t, λ f. tt)
+pub implies_iff : (a b : Bool) → T (implies a b) ↔ (T a → T b)
+implies_iff true b = (λ x t. x, λ f. f tt)
+implies_iff false b = (λ x t. absurd t, λ f. tt)
 
-pub beq-iff : (a b : Bool) → T (beq a b) → T a ↔ T b
-beq-iff true true t = (λ x. x, λ x. x)
-beq-iff true false t = absurd t
-beq-iff false true t = absurd t
-beq-iff false false t = (λ x. x, λ x. x)
+pub beq_iff : (a b : Bool) → T (beq a b) → T a ↔ T b
+beq_iff true true t = (λ x. x, λ x. x)
+beq_iff true false t = absurd t
+beq_iff false true t = absurd t
+beq_iff false false t = (λ x. x, λ x. x)
 
 -- what a test comes to, from what it tells
 pub true_of : (b : Bool) → T b → b ≡ true

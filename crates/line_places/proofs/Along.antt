@@ -10,7 +10,7 @@ use native.Mathlib.Nat.{add-zero}
 use borrow.Author.Tests.{eq-eqb, ne_eqb}
 use lib.ListN.{length, drop, get_or, replicate, drop_of_length-le, length-replicate, get_or-replicate, get_or-map}
 use lib.Seq.{drop-cons}
-use Rattle.meaning.specs.ListingReader.{Slot, fixed, any_digit, isHex, takes, along}
+use Rattle.meaning.specs.ListingReader.{Slot, fixed, any_digit, is_hex, takes, along}
 
 -- ---- byte by byte
 
@@ -22,10 +22,10 @@ pub record Going (f : List Slot) (t : List ℕ) (at i : ℕ) : Type 0 where
 pub going_start : (f : List Slot) (t : List ℕ) (at : ℕ) → Going f t at 0
 going_start f t at = record { within = omega arith; same = rw (add-zero at) (omega arith) }
 
-pub along-nil : (f : List Slot) → along f [] ≡ 0
+pub along_nil : (f : List Slot) → along f [] ≡ 0
 unfolding along
-along-nil [] = refl
-along-nil (s ∷ f) = refl
+along_nil [] = refl
+along_nil (s ∷ f) = refl
 
 module _ {f : List Slot} {t : List ℕ} {at i : ℕ} (g : Going f t at i) where
   -- the form is at its end
@@ -34,11 +34,11 @@ module _ {f : List Slot} {t : List ℕ} {at i : ℕ} (g : Going f t at i) where
   going_done l = let e : drop i f ≡ [] = drop_of_length-le f l in let h = rw e at g.same in omega arith
 
   -- the text is
-  pub going-short : length t ≤ at + i → i ≡ along f (drop at t)
-  going-short l =
+  pub going_short : length t ≤ at + i → i ≡ along f (drop at t)
+  going_short l =
       let e : drop (at + i) t ≡ [] = drop_of_length-le t l in
       let h : i + along (drop i f) [] ≡ along f (drop at t) = rw e at g.same in
-      omega (arith, along-nil (drop i f))
+      omega (arith, along_nil (drop i f))
 
   module _ (s d : Slot) (l : i < length f) (e : get_or f i d ≡ s) (k : at + i < length t) where
     split : i + along (s ∷ drop (suc i) f) (get_or t (at + i) 0 ∷ drop (suc (at + i)) t) ≡ along f (drop at t)
@@ -47,9 +47,9 @@ module _ {f : List Slot} {t : List ℕ} {at i : ℕ} (g : Going f t at i) where
         let b : drop (at + i) t ≡ get_or t (at + i) 0 ∷ drop (suc (at + i)) t = drop-cons t (at + i) 0 k in
         rw (a, b) at g.same
 
-    pub going-stopped : takes s (get_or t (at + i) 0) ≡ false → i ≡ along f (drop at t)
+    pub going_stopped : takes s (get_or t (at + i) 0) ≡ false → i ≡ along f (drop at t)
     unfolding along
-    going-stopped n = let h = rw n at split in omega arith
+    going_stopped n = let h = rw n at split in omega arith
 
     pub going_next : takes s (get_or t (at + i) 0) ≡ true → Going f t at (i + 1)
     unfolding along
@@ -61,22 +61,22 @@ module _ {f : List Slot} {t : List ℕ} {at i : ℕ} (g : Going f t at i) where
 
 -- ---- two forms
 
-pub along-left : (f g : List Slot) (xs : List ℕ) → along f xs < length f → along (f ++ g) xs ≡ along f xs
+pub along_left : (f g : List Slot) (xs : List ℕ) → along f xs < length f → along (f ++ g) xs ≡ along f xs
 unfolding along
-along-left [] g xs l = absurd (omega arith)
-along-left (s ∷ f) g [] l = refl
-along-left (s ∷ f) g (x ∷ xs) l = by (takes s x) l (along-left f g xs)
+along_left [] g xs l = absurd (omega arith)
+along_left (s ∷ f) g [] l = refl
+along_left (s ∷ f) g (x ∷ xs) l = by (takes s x) l (along_left f g xs)
   where
     by : (b : Bool) → cond b (suc (along f xs)) 0 < suc (length f) → (along f xs < length f → along (f ++ g) xs ≡ along f xs)
         → cond b (suc (along (f ++ g) xs)) 0 ≡ cond b (suc (along f xs)) 0
     by true h more = ap suc (more (omega arith))
     by false h more = refl
 
-pub along-on : (f g : List Slot) (xs : List ℕ) → along f xs ≡ length f → along (f ++ g) xs ≡ length f + along g (drop (length f) xs)
+pub along_on : (f g : List Slot) (xs : List ℕ) → along f xs ≡ length f → along (f ++ g) xs ≡ length f + along g (drop (length f) xs)
 unfolding along
-along-on [] g xs e = omega arith
-along-on (s ∷ f) g [] e = absurd (omega arith)
-along-on (s ∷ f) g (x ∷ xs) e = by (takes s x) e (along-on f g xs)
+along_on [] g xs e = omega arith
+along_on (s ∷ f) g [] e = absurd (omega arith)
+along_on (s ∷ f) g (x ∷ xs) e = by (takes s x) e (along_on f g xs)
   where
     by : (b : Bool) → cond b (suc (along f xs)) 0 ≡ suc (length f) → (along f xs ≡ length f → along (f ++ g) xs ≡ length f + along g (drop (length f) xs))
         → cond b (suc (along (f ++ g) xs)) 0 ≡ suc (length f) + along g (drop (length f) xs)
@@ -85,36 +85,36 @@ along-on (s ∷ f) g (x ∷ xs) e = by (takes s x) e (along-on f g xs)
 
 -- ---- digits
 
-digit-slot : (n i : ℕ) → i < n → get_or (replicate n any_digit) i any_digit ≡ any_digit
-digit-slot n i l = get_or-replicate n i any_digit any_digit l
+digit_slot : (n i : ℕ) → i < n → get_or (replicate n any_digit) i any_digit ≡ any_digit
+digit_slot n i l = get_or-replicate n i any_digit any_digit l
 
 module _ (n : ℕ) {t : List ℕ} {at i : ℕ} (g : Going (replicate n any_digit) t at i) where
-  pub digits-done : n ≤ i → i ≡ along (replicate n any_digit) (drop at t)
-  digits-done l = going_done g (omega (arith, length-replicate n any_digit))
+  pub digits_done : n ≤ i → i ≡ along (replicate n any_digit) (drop at t)
+  digits_done l = going_done g (omega (arith, length-replicate n any_digit))
 
   module _ (l : i < n) (k : at + i < length t) where
-    pub digits-stopped : isHex (get_or t (at + i) 0) ≡ false → i ≡ along (replicate n any_digit) (drop at t)
-    digits-stopped e = going-stopped g any_digit any_digit (omega (arith, length-replicate n any_digit)) (digit-slot n i l) k e
+    pub digits_stopped : is_hex (get_or t (at + i) 0) ≡ false → i ≡ along (replicate n any_digit) (drop at t)
+    digits_stopped e = going_stopped g any_digit any_digit (omega (arith, length-replicate n any_digit)) (digit_slot n i l) k e
 
-    pub digits-next : isHex (get_or t (at + i) 0) ≡ true → Going (replicate n any_digit) t at (i + 1)
-    digits-next e = going_next g any_digit any_digit (omega (arith, length-replicate n any_digit)) (digit-slot n i l) k e
+    pub digits_next : is_hex (get_or t (at + i) 0) ≡ true → Going (replicate n any_digit) t at (i + 1)
+    digits_next e = going_next g any_digit any_digit (omega (arith, length-replicate n any_digit)) (digit_slot n i l) k e
 
 -- ---- fixed bytes
 
-fixed-slot : (es : List ℕ) (i : ℕ) → get_or (map fixed es) i (fixed 0) ≡ fixed (get_or es i 0)
-fixed-slot es i = get_or-map fixed es i 0
+fixed_slot : (es : List ℕ) (i : ℕ) → get_or (map fixed es) i (fixed 0) ≡ fixed (get_or es i 0)
+fixed_slot es i = get_or-map fixed es i 0
 
-pub fixed-length : (es : List ℕ) → length (map fixed es) ≡ length es
-fixed-length [] = refl
-fixed-length (e ∷ es) = ap suc (fixed-length es)
+pub fixed_length : (es : List ℕ) → length (map fixed es) ≡ length es
+fixed_length [] = refl
+fixed_length (e ∷ es) = ap suc (fixed_length es)
 
 module _ (es : List ℕ) {t : List ℕ} {at i : ℕ} (g : Going (map fixed es) t at i) where
-  pub agree-done : length es ≤ i → i ≡ along (map fixed es) (drop at t)
-  agree-done l = going_done g (omega (arith, fixed-length es))
+  pub agree_done : length es ≤ i → i ≡ along (map fixed es) (drop at t)
+  agree_done l = going_done g (omega (arith, fixed_length es))
 
   module _ (l : i < length es) (k : at + i < length t) where
-    pub agree-stopped : get_or t (at + i) 0 ≢ get_or es i 0 → i ≡ along (map fixed es) (drop at t)
-    agree-stopped n = going-stopped g (fixed (get_or es i 0)) (fixed 0) (omega (arith, fixed-length es)) (fixed-slot es i) k (ne_eqb (get_or t (at + i) 0) (get_or es i 0) n)
+    pub agree_stopped : get_or t (at + i) 0 ≢ get_or es i 0 → i ≡ along (map fixed es) (drop at t)
+    agree_stopped n = going_stopped g (fixed (get_or es i 0)) (fixed 0) (omega (arith, fixed_length es)) (fixed_slot es i) k (ne_eqb (get_or t (at + i) 0) (get_or es i 0) n)
 
-    pub agree-next : get_or t (at + i) 0 ≡ get_or es i 0 → Going (map fixed es) t at (i + 1)
-    agree-next e = going_next g (fixed (get_or es i 0)) (fixed 0) (omega (arith, fixed-length es)) (fixed-slot es i) k (eq-eqb (get_or t (at + i) 0) (get_or es i 0) e)
+    pub agree_next : get_or t (at + i) 0 ≡ get_or es i 0 → Going (map fixed es) t at (i + 1)
+    agree_next e = going_next g (fixed (get_or es i 0)) (fixed 0) (omega (arith, fixed_length es)) (fixed_slot es i) k (eq-eqb (get_or t (at + i) 0) (get_or es i 0) e)

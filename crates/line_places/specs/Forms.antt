@@ -5,5 +5,5 @@ use Rattle.meaning.specs.Text.{ascii}
 use Rattle.meaning.specs.ListingReader.{Slot, fixed, any_digit}
 
 -- these bytes, n digits, and the line's end
-abbrev pub formWith : List ℕ → ℕ → List Slot
-formWith before n = map fixed before ++ (replicate n any_digit ++ map fixed (ascii "\n"))
+abbrev pub form_with : List ℕ → ℕ → List Slot
+form_with before n = map fixed before ++ (replicate n any_digit ++ map fixed (ascii "\n"))

@@ -1,11 +1,11 @@
 // How far a text goes along the lines that registers may have: for the place of a refusal.
 ghost use Rattle.std.specs.Prelude.{◌≡◌, ◌++◌, map, ◌+◌, ◌-◌, ◌<◌, ◌≤◌, max, length, drop, replicate};
-ghost use Rattle.meaning.specs.Registers.{cells, firstVideo, endVideo};
+ghost use Rattle.meaning.specs.Registers.{cells, first_video, end_video};
 ghost use Rattle.meaning.specs.Text.{ascii};
 ghost use Rattle.meaning.specs.Lister.{digit};
-ghost use Rattle.meaning.specs.ListingReader.{fixed, any_digit, isHex, along, form_of};
-ghost use Rattle.listings.specs.Lines.{name3D, nameVideo, line_for, furthestOf};
-ghost use Rattle.line_places.specs.Forms.{formWith};
+ghost use Rattle.meaning.specs.ListingReader.{fixed, any_digit, is_hex, along, form_of};
+ghost use Rattle.listings.specs.Lines.{name_3d, name_video, line_for, furthest_of};
+ghost use Rattle.line_places.specs.Forms.{form_with};
 
 use meaning::{Cell, FIRST_VIDEO};
 
@@ -22,8 +22,8 @@ fn hex_digit(d: u32) -> u8
 
 // As `reg=01.00.50 val=00`: a 3D value has 24 bits, so its first two digits are 0.
 fn before_3d(cell: Cell) -> [u8; 19]
-    requires cell { cell.0 < firstVideo }
-    ensures text { result ≡ name3D cell.0 ++ ascii " val=00" }
+    requires cell { cell.0 < first_video }
+    ensures text { result ≡ name_3d cell.0 ++ ascii " val=00" }
 {
     let name = registers::name_of(cell);
     let address = name.address;
@@ -52,9 +52,9 @@ fn before_3d(cell: Cell) -> [u8; 19]
 
 // As `reg=23f0 val=`.
 fn before_video(cell: Cell) -> [u8; 13]
-    requires low { firstVideo ≤ cell.0 }
-    requires high { cell.0 < endVideo }
-    ensures text { result ≡ nameVideo cell.0 ++ ascii " val=" }
+    requires low { first_video ≤ cell.0 }
+    requires high { cell.0 < end_video }
+    ensures text { result ≡ name_video cell.0 ++ ascii " val=" }
 {
     let offset = registers::offset_of(cell);
     [
@@ -94,7 +94,7 @@ fn agree(text: &[u8], at: usize, expected: &[u8]) -> usize
 
 // A hex digit, in lower case.
 fn is_hex(x: u8) -> bool
-    ensures hex { result ≡ isHex x }
+    ensures hex { result ≡ is_hex x }
 {
     match x {
         48..=57 => true,
@@ -124,7 +124,7 @@ fn hex_run(text: &[u8], at: usize, n: usize) -> usize
 // How many bytes from `at` on follow a line: those before its free digits, n digits, and the line's end.
 fn along_line(text: &[u8], at: usize, before: &[u8], n: usize) -> usize
     requires inside { at ≤ length text.now }
-    ensures bytes { result ≡ along (formWith before.now n) (drop at text.now) }
+    ensures bytes { result ≡ along (form_with before.now n) (drop at text.now) }
 {
     let agreed = agree(text, at, before);
     if agreed < before.len() {
@@ -172,7 +172,7 @@ fn larger(a: usize, b: usize) -> usize
 pub fn furthest(text: &[u8], at: usize, first: usize, end: usize) -> usize
     requires inside { at ≤ length text.now }
     requires cells { end ≤ cells }
-    ensures bytes { result ≡ furthestOf first (end - first) (drop at text.now) }
+    ensures bytes { result ≡ furthest_of first (end - first) (drop at text.now) }
 {
     let mut far = 0;
     let mut c = first;

@@ -13,16 +13,16 @@ use Rattle.meaning.specs.Words.{Word, bytes_of}
 use Rattle.meaning.specs.Text.{ascii}
 use Rattle.meaning.specs.Lister.{digit, hex}
 use Rattle.meaning.specs.ListingReader.{worth}
-use Rattle.lines.specs.Lines.{valueText}
-use Rattle.listings.proofs.Digits.{worth-hex, hex-length}
-use Rattle.line_reader.specs.Named.{digitOr16}
+use Rattle.lines.specs.Lines.{value_text}
+use Rattle.listings.proofs.Digits.{worth_hex, hex_length}
+use Rattle.line_reader.specs.Named.{digit_or_16}
 use Rattle.line_reader.specs.Read.{Four, DigitsAt, ValueAt}
-use Rattle.line_reader.proofs.Fours.{bytes-once}
-use Rattle.line_reader.proofs.Digits.{counts-digit, digit-counts, hex-hex, hex-more}
+use Rattle.line_reader.proofs.Fours.{bytes_once}
+use Rattle.line_reader.proofs.Digits.{counts_digit, digit_counts, hex_hex, hex_more}
 
 -- two numbers of the same digits
-hex-once : (u v : ℕ) → Word u → Word v → hex 8 u ≡ hex 8 v → u ≡ v
-hex-once u v a b e = sym (worth-hex 8 u a) ∙ ap worth e ∙ worth-hex 8 v b
+hex_once : (u v : ℕ) → Word u → Word v → hex 8 u ≡ hex 8 v → u ≡ v
+hex_once u v a b e = sym (worth_hex 8 u a) ∙ ap worth e ∙ worth_hex 8 v b
 
 -- ---- digit by digit: those before i make the value
 
@@ -32,49 +32,49 @@ pub record Making (t : List ℕ) (at value i : ℕ) : Type 0 where
   pub low : value < 16 ^ i
   pub made : take i (drop at t) ≡ hex i value
 
-pub making-start : (t : List ℕ) (at : ℕ) → at + 8 ≤ length t → Making t at 0 0
+pub making_start : (t : List ℕ) (at : ℕ) → at + 8 ≤ length t → Making t at 0 0
 unfolding hex
-making-start t at l = record { room = l; few = omega arith; low = omega arith; made = refl }
+making_start t at l = record { room = l; few = omega arith; low = omega arith; made = refl }
 
 module _ {t : List ℕ} {at value i : ℕ} (m : Making t at value i) where
-  pub making-done : 8 ≤ i → DigitsAt (drop at t) true value
-  making-done l =
+  pub making_done : 8 ≤ i → DigitsAt (drop at t) true value
+  making_done l =
       let e : i ≡ 8 = omega (arith, m.few) in
       let low : Word value = rw e at m.low in
       let made : take 8 (drop at t) ≡ hex 8 value = rw e at m.made in
-      record { found = λ _. (low, made); only = λ u w s. (refl, hex-once value u low w (sym made ∙ s)) }
+      record { found = λ _. (low, made); only = λ u w s. (refl, hex_once value u low w (sym made ∙ s)) }
 
   module _ (l : i < 8) where
     byte : get_or (drop at t) i 0 ≡ get_or t (at + i) 0
     byte = get_or-drop at t i 0
 
     -- no digit
-    pub making-stopped : {v : ℕ} {fine : Bool} → fine ≡ false → 15 < digitOr16 (get_or t (at + i) 0) → DigitsAt (drop at t) fine v
-    making-stopped e h =
+    pub making_stopped : {v : ℕ} {fine : Bool} → fine ≡ false → 15 < digit_or_16 (get_or t (at + i) 0) → DigitsAt (drop at t) fine v
+    making_stopped e h =
         record {
           found = λ f. absurd (true≢false (sym f ∙ e));
           only = λ u w s.
               let x : get_or (hex 8 u) i 0 ≡ get_or t (at + i) 0 = ap (λ (y : List ℕ). get_or y i 0) (sym s) ∙ get_or-take 8 (drop at t) i 0 l ∙ byte in
-              absurd (omega (arith, digit-counts (get_or t (at + i) 0) (rw x at (hex-hex 8 u i l))));
+              absurd (omega (arith, digit_counts (get_or t (at + i) 0) (rw x at (hex_hex 8 u i l))));
         }
 
-    pub making-fits : (d : ℕ) → d ≤ 15 → value * 16 + d < 2 ^ 32
-    making-fits d h =
+    pub making_fits : (d : ℕ) → d ≤ 15 → value * 16 + d < 2 ^ 32
+    making_fits d h =
         let p : 16 ^ i ≤ 16 ^ 7 = pow-le-pow_right {n = 16} (omega arith) {i = i} {j = 7} (omega arith) in
         let q : 16 ^ i ≤ 268435456 = p in
         omega (arith, m.low)
 
-    pub making-next : (d : ℕ) → d ≡ digitOr16 (get_or t (at + i) 0) → d ≤ 15 → Making t at (value * 16 + d) (i + 1)
-    making-next d e h =
+    pub making_next : (d : ℕ) → d ≡ digit_or_16 (get_or t (at + i) 0) → d ≤ 15 → Making t at (value * 16 + d) (i + 1)
+    making_next d e h =
         let s : i + 1 ≡ suc i = omega arith in
         let j : i < length (drop at t) = omega (arith, length-drop at t, m.room) in
         let x = get_or t (at + i) 0 in
-        let g : get_or t (at + i) 0 ≡ digit d = sym (ap digit e ∙ counts-digit (get_or t (at + i) 0) (omega arith)) in
+        let g : get_or t (at + i) 0 ≡ digit d = sym (ap digit e ∙ counts_digit (get_or t (at + i) 0) (omega arith)) in
         record {
           room = m.room;
           few = omega arith;
           low = rw (s, pow-suc 16 i) (omega (arith, m.low));
-          made = rw (s, take-suc (drop at t) i 0 j, m.made, byte, g) (sym (hex-more i value d (omega arith)));
+          made = rw (s, take-suc (drop at t) i 0 j, m.made, byte, g) (sym (hex_more i value d (omega arith)));
         }
 
 -- ---- the end of a line
@@ -94,20 +94,20 @@ module _ (ys : List ℕ) where
     pub digits : take 8 (drop 5 ys) ≡ hex 8 u
     pub newline : get_or ys 13 0 ≡ 10
 
-  pub ends_of : (u : ℕ) → take 14 ys ≡ valueText u → Ends u
+  pub ends_of : (u : ℕ) → take 14 ys ≡ value_text u → Ends u
   unfolding hex
   ends_of u e =
-      let s = standing 14 ys (valueText u) e in
+      let s = standing 14 ys (value_text u) e in
       record { key = rw s; equals = rw s; digits = rw s; newline = rw s }
 
-  pub of-ends : (u : ℕ) → 14 ≤ length ys → Ends u → take 14 ys ≡ valueText u
-  of-ends u l p =
+  pub of_ends : (u : ℕ) → 14 ≤ length ys → Ends u → take 14 ys ≡ value_text u
+  of_ends u l p =
       take-add 4 10 ys
       ∙ rw (p.key, take-add 1 9 (drop 4 ys), drop-drop 1 4 ys, take-add 8 1 (drop 5 ys), drop-drop 8 5 ys, one_byte ys 4 (omega arith), p.equals, p.digits, one_byte ys 13 (omega arith), p.newline)
 
 -- ` val`, as a word
-abbrev pub valKey : ℕ
-valKey = 0x6C617620
+abbrev pub val_key : ℕ
+val_key = 0x6C617620
 
 module _ (t : List ℕ) (at : ℕ) (room : at + 14 ≤ length t) where
   abbrev ys : List ℕ
@@ -121,22 +121,22 @@ module _ (t : List ℕ) (at : ℕ) (room : at + 14 ≤ length t) where
   refuted e none = record { found = λ f. absurd (true≢false (sym f ∙ e)); only = λ u w s. absurd (none u (ends_of ys u s)) }
 
   module _ {w : ℕ} (f : Four t at w) where
-    pub no_key : {v : ℕ} {fine : Bool} → fine ≡ false → w ≢ valKey → ValueAt ys fine v
-    no_key e ne = refuted e (λ u p. ne (ap (λ (l : List ℕ). get_or l 0 0) (bytes-once (w ∷ []) (valKey ∷ []) (f.word, tt) (omega arith, tt) (sym f.same ∙ p.key))))
+    pub no_key : {v : ℕ} {fine : Bool} → fine ≡ false → w ≢ val_key → ValueAt ys fine v
+    no_key e ne = refuted e (λ u p. ne (ap (λ (l : List ℕ). get_or l 0 0) (bytes_once (w ∷ []) (val_key ∷ []) (f.word, tt) (omega arith, tt) (sym f.same ∙ p.key))))
 
-    pub no-equals : {v : ℕ} {fine : Bool} → fine ≡ false → get_or t (at + 4) 0 ≢ 61 → ValueAt ys fine v
-    no-equals e ne = refuted e (λ u p. ne (sym (get_or-drop at t 4 0) ∙ p.equals))
+    pub no_equals : {v : ℕ} {fine : Bool} → fine ≡ false → get_or t (at + 4) 0 ≢ 61 → ValueAt ys fine v
+    no_equals e ne = refuted e (λ u p. ne (sym (get_or-drop at t 4 0) ∙ p.equals))
 
-    pub no-newline : {v : ℕ} {fine : Bool} → fine ≡ false → get_or t (at + 13) 0 ≢ 10 → ValueAt ys fine v
-    no-newline e ne = refuted e (λ u p. ne (sym (get_or-drop at t 13 0) ∙ p.newline))
+    pub no_newline : {v : ℕ} {fine : Bool} → fine ≡ false → get_or t (at + 13) 0 ≢ 10 → ValueAt ys fine v
+    no_newline e ne = refuted e (λ u p. ne (sym (get_or-drop at t 13 0) ∙ p.newline))
 
-    pub value_of : w ≡ valKey → get_or t (at + 4) 0 ≡ 61 → get_or t (at + 13) 0 ≡ 10 → {v : ℕ} {fine : Bool} → DigitsAt (drop (at + 5) t) fine v → ValueAt ys fine v
+    pub value_of : w ≡ val_key → get_or t (at + 4) 0 ≡ 61 → get_or t (at + 13) 0 ≡ 10 → {v : ℕ} {fine : Bool} → DigitsAt (drop (at + 5) t) fine v → ValueAt ys fine v
     value_of key equals newline {v} {fine} d =
         record {
           found = λ e.
               let p = d.found e in (
                 p.0,
-                of-ends ys v long
+                of_ends ys v long
                     (record {
                       key = f.same ∙ rw key;
                       equals = get_or-drop at t 4 0 ∙ equals;

@@ -7,16 +7,16 @@ use Rattle.laws.specs.Tests.{within}
 use Rattle.meaning.specs.Registers.{cells}
 
 -- what a hex digit counts; 16 for any other byte
-unfoldable pub digitOr16 : ℕ → ℕ
-digitOr16 x = cond (within 48 57 x) (x - 48) (cond (within 97 102 x) (x - 87) 16)
+unfoldable pub digit_or_16 : ℕ → ℕ
+digit_or_16 x = cond (within 48 57 x) (x - 48) (cond (within 97 102 x) (x - 87) 16)
 
 -- the same of each byte
-unfoldable pub digitTable : List ℕ
-digitTable = map digitOr16 (from 0 256)
+unfoldable pub digit_table : List ℕ
+digit_table = map digit_or_16 (from 0 256)
 
 -- the 3D cell of a name as `01.0` and `0.3f`, whose digit n is told; cells if there is none
-unfoldable pub cell3DBy : ℕ → ℕ → ℕ → ℕ
-cell3DBy n kind name =
+unfoldable pub cell_3d_by : ℕ → ℕ → ℕ → ℕ
+cell_3d_by n kind name =
     cond (eqb kind 0x302E3130)
     (cond (eqb name 0x66332E30) 0
     (cond (eqb name 0x30352E30) 1
@@ -32,12 +32,12 @@ cell3DBy n kind name =
     cells))
 
 -- which is the first byte of its second half
-unfoldable pub cell3DOf : ℕ → ℕ → ℕ
-cell3DOf kind name = cond (ltb 15 (digitOr16 (name % 256))) cells (cell3DBy (digitOr16 (name % 256)) kind name)
+unfoldable pub cell_3d_of : ℕ → ℕ → ℕ
+cell_3d_of kind name = cond (ltb 15 (digit_or_16 (name % 256))) cells (cell_3d_by (digit_or_16 (name % 256)) kind name)
 
 -- the video cell of an offset of four digits; cells if there is none
-unfoldable pub cellVideoOf : ℕ → ℕ
-cellVideoOf o =
+unfoldable pub cell_video_of : ℕ → ℕ
+cell_video_of o =
     cond (eqb o 0x38303232) 84
     (cond (eqb o 0x63303232) 85
     (cond (eqb o 0x30313232) 86

@@ -4,8 +4,8 @@ use Rattle.std.specs.Prelude.{◌≡◌, Bool, true, List, [], ◌∷◌, ℕ, �
 use Rattle.meaning.specs.Words.{Word, bytes_of}
 use Rattle.meaning.specs.Registers.{cells}
 use Rattle.meaning.specs.Lister.{hex}
-use Rattle.lines.specs.Lines.{valueText}
-use Rattle.listings.specs.Lines.{nameText, LineHere}
+use Rattle.lines.specs.Lines.{value_text}
+use Rattle.listings.specs.Lines.{name_text, LineHere}
 
 -- the bytes of a word, from `at` on
 pub record Four (t : List ℕ) (at w : ℕ) : Type 0 where
@@ -23,12 +23,12 @@ DigitsAt = StandsFor (hex 8) 8
 
 -- the end of a line
 abbrev pub ValueAt : List ℕ → Bool → ℕ → Type 0
-ValueAt = StandsFor valueText 14
+ValueAt = StandsFor value_text 14
 
 -- the name of cell c, which ends at `end`; c is `cells` if no cell's name stands there
 pub record NameAt (xs : List ℕ) (c end : ℕ) : Type 0 where
-  pub found : c < cells → (end ≡ length (nameText c)) × (take end xs ≡ nameText c)
-  pub only : (d : ℕ) → d < cells → take (length (nameText d)) xs ≡ nameText d → c ≡ d
+  pub found : c < cells → (end ≡ length (name_text c)) × (take end xs ≡ name_text c)
+  pub only : (d : ℕ) → d < cells → take (length (name_text d)) xs ≡ name_text d → c ≡ d
 
 -- the line of a cell from `first` to before `end`, with its value
 pub record LineAt (xs : List ℕ) (first end c v : ℕ) : Type 0 where

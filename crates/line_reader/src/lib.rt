@@ -2,7 +2,7 @@
 // table, which the caller lends.
 ghost use Rattle.std.specs.Prelude.{◌≡◌, false, ◌+◌, ◌<◌, ◌≤◌, length, drop};
 ghost use Rattle.meaning.specs.Registers.{cells};
-ghost use Rattle.line_reader.specs.Named.{digitOr16, digitTable, cell3DBy, cell3DOf, cellVideoOf};
+ghost use Rattle.line_reader.specs.Named.{digit_or_16, digit_table, cell_3d_by, cell_3d_of, cell_video_of};
 ghost use Rattle.line_reader.specs.Read.{Four, DigitsAt, NameAt, ValueAt, LineAt};
 
 use meaning::{CELLS, FIRST_VIDEO};
@@ -33,8 +33,8 @@ fn four(text: &[u8], at: usize) -> u32
 
 // What a hex digit counts; 16 for any other byte.
 fn digit_of(digits: &[u8; 256], x: u8) -> u32
-    requires table { digits.now ≡ digitTable }
-    ensures digit { result ≡ digitOr16 x }
+    requires table { digits.now ≡ digit_table }
+    ensures digit { result ≡ digit_or_16 x }
 {
     digits[x as usize] as u32
 }
@@ -42,7 +42,7 @@ fn digit_of(digits: &[u8; 256], x: u8) -> u32
 // The 3D cell whose name is these eight bytes, as `01.0` and `0.3f`, with the digit n; CELLS if there is none.
 fn cell_by(n: usize, kind: u32, name: u32) -> usize
     requires digit { n < 16 }
-    ensures cell { result ≡ cell3DBy n kind name }
+    ensures cell { result ≡ cell_3d_by n kind name }
 {
     let address = name / 256;
     match kind {
@@ -73,8 +73,8 @@ fn cell_by(n: usize, kind: u32, name: u32) -> usize
 
 // The same; the digit is the first byte of the second half.
 fn cell_3d(digits: &[u8; 256], kind: u32, name: u32) -> usize
-    requires table { digits.now ≡ digitTable }
-    ensures cell { result ≡ cell3DOf kind name }
+    requires table { digits.now ≡ digit_table }
+    ensures cell { result ≡ cell_3d_of kind name }
 {
     let n = digit_of(digits, (name % 256) as u8);
     if 15 < n {
@@ -85,7 +85,7 @@ fn cell_3d(digits: &[u8; 256], kind: u32, name: u32) -> usize
 
 // The video cell whose offset is these four digits; CELLS if there is none.
 fn cell_video(offset: u32) -> usize
-    ensures cell { result ≡ cellVideoOf offset }
+    ensures cell { result ≡ cell_video_of offset }
 {
     match offset {
         // 2208, 220c, 2210
@@ -121,7 +121,7 @@ struct Name {
 
 // The name in the line from `at` on.
 fn name_at(digits: &[u8; 256], text: &[u8], at: usize) -> Name
-    requires table { digits.now ≡ digitTable }
+    requires table { digits.now ≡ digit_table }
     requires inside { at + 12 ≤ length text.now }
     ensures name { NameAt (drop at text.now) result.cell result.end }
 {
@@ -160,7 +160,7 @@ fn no_value() -> Value
 
 // The eight digits from `at` on.
 fn digits_at(digits: &[u8; 256], text: &[u8], at: usize) -> Value
-    requires table { digits.now ≡ digitTable }
+    requires table { digits.now ≡ digit_table }
     requires inside { at + 8 ≤ length text.now }
     ensures value { DigitsAt (drop at text.now) result.fine result.value }
 {
@@ -179,7 +179,7 @@ fn digits_at(digits: &[u8; 256], text: &[u8], at: usize) -> Value
 
 // The end of a line from `at` on, as ` val=00001000`.
 fn value_at(digits: &[u8; 256], text: &[u8], at: usize) -> Value
-    requires table { digits.now ≡ digitTable }
+    requires table { digits.now ≡ digit_table }
     requires inside { at + 14 ≤ length text.now }
     ensures value { ValueAt (drop at text.now) result.fine result.value }
 {
@@ -213,7 +213,7 @@ fn no_line() -> Line
 
 // The line from `at` on, if it is that of a cell from `first` to before `end`.
 pub fn read_line(digits: &[u8; 256], text: &[u8], at: usize, first: usize, end: usize) -> Line
-    requires table { digits.now ≡ digitTable }
+    requires table { digits.now ≡ digit_table }
     requires inside { at ≤ length text.now }
     requires cells { end ≤ cells }
     ensures line { LineAt (drop at text.now) first end result.cell result.value }

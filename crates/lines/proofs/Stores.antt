@@ -16,12 +16,12 @@ pub behind : (l : List ℕ) (i j : ℕ) (xs ys : List ℕ) {new : List ℕ} → 
 behind l i j xs ys e n = ap (λ (x : List ℕ). sets x j ys) e ∙ sets_behind l i j xs ys n
 
 -- what stands k places on in a text of so many bytes, for which there is room: its place is a number that the code can hold,
-pub place-fits : (at k wide : ℕ) {n : ℕ} → T (leb k wide) → at + wide ≤ n → n < 2 ^ 64 → Fits w64 (at + k)
-place-fits at k wide t h l = let s = leb→le k wide t in record { fits = omega arith }
+pub place_fits : (at k wide : ℕ) {n : ℕ} → T (leb k wide) → at + wide ≤ n → n < 2 ^ 64 → Fits w64 (at + k)
+place_fits at k wide t h l = let s = leb→le k wide t in record { fits = omega arith }
 
 -- and there is room for it, in the output as it now is
-pub part-fits : (at k part wide : ℕ) {n m : ℕ} → T (leb (k + part) wide) → at + wide ≤ n → m ≡ n → at + k + part ≤ m
-part-fits at k part wide t h e = let s = leb→le (k + part) wide t in omega arith
+pub part_fits : (at k part wide : ℕ) {n m : ℕ} → T (leb (k + part) wide) → at + wide ≤ n → m ≡ n → at + k + part ≤ m
+part_fits at k part wide t h e = let s = leb→le (k + part) wide t in omega arith
 
 -- and so for a single byte
 pub byte_fits : (at k wide : ℕ) {n m : ℕ} → T (ltb k wide) → at + wide ≤ n → m ≡ n → at + k < m

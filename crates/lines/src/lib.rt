@@ -2,16 +2,16 @@
 // which the caller lends: a lookup costs half of what the arithmetic of two digits does.
 ghost use Rattle.std.specs.Prelude.{◌≡◌, ◌++◌, ◌+◌, ◌<◌, ◌≤◌, length};
 ghost use Rattle.std.proofs.lemmas.List.Edits.{sets};
-ghost use Rattle.meaning.specs.Registers.{firstVideo, endVideo};
+ghost use Rattle.meaning.specs.Registers.{first_video, end_video};
 ghost use Rattle.meaning.specs.Text.{ascii};
 ghost use Rattle.meaning.specs.Lister.{hex};
-ghost use Rattle.lines.specs.Lines.{digitPairs, valueText, cellLine3D, cellLineVideo};
+ghost use Rattle.lines.specs.Lines.{digit_pairs, value_text, cell_line_3d, cell_line_video};
 
 use meaning::Cell;
 
 // The two lowest digits of a number. Both are read before one is stored, so that they move as one.
 fn put_pair(pairs: &[u8; 512], out: &mut [u8], at: usize, n: u32)
-    requires table { pairs.now ≡ digitPairs }
+    requires table { pairs.now ≡ digit_pairs }
     requires room { at + 2 ≤ length out.old }
     ensures stored { out.new ≡ sets out.old at (hex 2 n) }
 {
@@ -24,7 +24,7 @@ fn put_pair(pairs: &[u8; 512], out: &mut [u8], at: usize, n: u32)
 
 // All eight digits.
 fn put_word(pairs: &[u8; 512], out: &mut [u8], at: usize, w: u32)
-    requires table { pairs.now ≡ digitPairs }
+    requires table { pairs.now ≡ digit_pairs }
     requires room { at + 8 ≤ length out.old }
     ensures stored { out.new ≡ sets out.old at (hex 8 w) }
 {
@@ -36,7 +36,7 @@ fn put_word(pairs: &[u8; 512], out: &mut [u8], at: usize, w: u32)
 
 // A type or a sub-type, and the dot behind it.
 fn put_dotted(pairs: &[u8; 512], out: &mut [u8], at: usize, n: u32)
-    requires table { pairs.now ≡ digitPairs }
+    requires table { pairs.now ≡ digit_pairs }
     requires room { at + 3 ≤ length out.old }
     ensures stored { out.new ≡ sets out.old at (hex 2 n ++ ascii ".") }
 {
@@ -68,9 +68,9 @@ fn put_val_key(out: &mut [u8], at: usize)
 
 // The second half of a line, which both kinds of line share.
 fn put_value(pairs: &[u8; 512], out: &mut [u8], at: usize, value: u32)
-    requires table { pairs.now ≡ digitPairs }
+    requires table { pairs.now ≡ digit_pairs }
     requires room { at + 14 ≤ length out.old }
-    ensures stored { out.new ≡ sets out.old at (valueText value) }
+    ensures stored { out.new ≡ sets out.old at (value_text value) }
 {
     put_val_key(out, at);
     put_word(pairs, out, at + 5, value);
@@ -79,10 +79,10 @@ fn put_value(pairs: &[u8; 512], out: &mut [u8], at: usize, value: u32)
 
 // As `reg=01.00.50 val=00001000`.
 pub fn put_line_3d(pairs: &[u8; 512], out: &mut [u8], at: usize, cell: Cell, value: u32)
-    requires table { pairs.now ≡ digitPairs }
-    requires cell { cell.0 < firstVideo }
+    requires table { pairs.now ≡ digit_pairs }
+    requires cell { cell.0 < first_video }
     requires room { at + 26 ≤ length out.old }
-    ensures stored { out.new ≡ sets out.old at (cellLine3D cell value) }
+    ensures stored { out.new ≡ sets out.old at (cell_line_3d cell value) }
 {
     let name = registers::name_of(cell);
     let address = name.address;
@@ -95,11 +95,11 @@ pub fn put_line_3d(pairs: &[u8; 512], out: &mut [u8], at: usize, cell: Cell, val
 
 // As `reg=23f0 val=00001000`.
 pub fn put_line_video(pairs: &[u8; 512], out: &mut [u8], at: usize, cell: Cell, value: u32)
-    requires table { pairs.now ≡ digitPairs }
-    requires low { firstVideo ≤ cell.0 }
-    requires high { cell.0 < endVideo }
+    requires table { pairs.now ≡ digit_pairs }
+    requires low { first_video ≤ cell.0 }
+    requires high { cell.0 < end_video }
     requires room { at + 22 ≤ length out.old }
-    ensures stored { out.new ≡ sets out.old at (cellLineVideo cell value) }
+    ensures stored { out.new ≡ sets out.old at (cell_line_video cell value) }
 {
     let offset = registers::offset_of(cell);
     put_reg_key(out, at);

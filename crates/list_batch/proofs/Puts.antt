@@ -12,7 +12,7 @@ use lib.Seq.{length-sets}
 use Rattle.laws.proofs.Stores.{sets_behind}
 use Rattle.meaning.specs.Lister.{digit}
 use Rattle.list_batch.specs.Put.{Put}
-use Rattle.list_batch.specs.Printed.{digitFor, decimal5}
+use Rattle.list_batch.specs.Printed.{digit_for, decimal5}
 
 -- ---- one text behind another
 
@@ -24,36 +24,36 @@ behind {old} {mid} {new} {at} {next} {end} {u} {v} p q =
     }
 
 -- the room that is left behind a text of at most n bytes
-pub room-behind : {old new : List ℕ} {at end : ℕ} {u : List ℕ} (n room : ℕ) → length u ≤ n → Put old at u new end → at + (n + room) ≤ length old → end + room ≤ length new
-room-behind {old} {new} {at} {end} {u} n room few p l =
+pub room_behind : {old new : List ℕ} {at end : ℕ} {u : List ℕ} (n room : ℕ) → length u ≤ n → Put old at u new end → at + (n + room) ≤ length old → end + room ≤ length new
+room_behind {old} {new} {at} {end} {u} n room few p l =
     let same : length new ≡ length old = ap length p.stored ∙ length-sets old at u in
     omega (arith, p.ends)
 
 -- ---- digits
 
-pub digit-small : (d : ℕ) → d < 10 → 48 + d ≡ digit d
+pub digit_small : (d : ℕ) → d < 10 → 48 + d ≡ digit d
 unfolding digit
-digit-small d l = rw (lt-ltb d 10 l)
+digit_small d l = rw (lt-ltb d 10 l)
 
-pub one-digit : (unit n : ℕ) → length (digitFor unit n) ≤ 1
-unfolding digitFor
-one-digit unit n = by-test (leb unit n)
+pub one_digit : (unit n : ℕ) → length (digit_for unit n) ≤ 1
+unfolding digit_for
+one_digit unit n = by_test (leb unit n)
   where
-    by-test : (b : Bool) → length (cond b (digit (n / unit % 10) ∷ []) []) ≤ 1
-    by-test true = omega arith
-    by-test false = omega arith
+    by_test : (b : Bool) → length (cond b (digit (n / unit % 10) ∷ []) []) ≤ 1
+    by_test true = omega arith
+    by_test false = omega arith
 
-pub five-digits : (n : ℕ) → length (decimal5 n) ≤ 5
+pub five_digits : (n : ℕ) → length (decimal5 n) ≤ 5
 unfolding decimal5
-five-digits n =
+five_digits n =
     omega (
       arith,
-      length-append (digitFor 10000 n) (digitFor 1000 n ++ (digitFor 100 n ++ (digitFor 10 n ++ (digit (n % 10) ∷ [])))),
-      length-append (digitFor 1000 n) (digitFor 100 n ++ (digitFor 10 n ++ (digit (n % 10) ∷ []))),
-      length-append (digitFor 100 n) (digitFor 10 n ++ (digit (n % 10) ∷ [])),
-      length-append (digitFor 10 n) (digit (n % 10) ∷ []),
-      one-digit 10000 n,
-      one-digit 1000 n,
-      one-digit 100 n,
-      one-digit 10 n,
+      length-append (digit_for 10000 n) (digit_for 1000 n ++ (digit_for 100 n ++ (digit_for 10 n ++ (digit (n % 10) ∷ [])))),
+      length-append (digit_for 1000 n) (digit_for 100 n ++ (digit_for 10 n ++ (digit (n % 10) ∷ []))),
+      length-append (digit_for 100 n) (digit_for 10 n ++ (digit (n % 10) ∷ [])),
+      length-append (digit_for 10 n) (digit (n % 10) ∷ []),
+      one_digit 10000 n,
+      one_digit 1000 n,
+      one_digit 100 n,
+      one_digit 10 n,
     )

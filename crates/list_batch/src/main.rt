@@ -2,10 +2,10 @@
 ghost use Rattle.std.specs.Prelude.{◌≡◌, ◌+◌, ◌≤◌, ◌<◌, length};
 ghost use Rattle.laws.specs.Lists.{over};
 ghost use Rattle.meaning.specs.Answers.{number_of};
-ghost use Rattle.meaning.specs.Exported.{mostBytes, exportedRead, exportedReadLeaves};
-ghost use Rattle.meaning.specs.Lister.{mostListed};
+ghost use Rattle.meaning.specs.Exported.{most_bytes, exported_read, exported_read_leaves};
+ghost use Rattle.meaning.specs.Lister.{most_listed};
 ghost use Rattle.list_batch.specs.Put.{Put};
-ghost use Rattle.list_batch.specs.Printed.{digitFor, decimal5, refusalLine, k1Grant, printed};
+ghost use Rattle.list_batch.specs.Printed.{digit_for, decimal5, refusal_line, k1_grant, printed};
 
 use meaning::{MOST_BYTES, MOST_LISTED, STATE_WORDS};
 
@@ -26,7 +26,7 @@ const TEXT_ROOM: usize = MOST_LISTED;
 
 // Where the array is made, so that no proof but this one has to look at 65,537 zeros.
 fn input_buffer() -> [u8; INPUT_ROOM]
-    ensures whole { mostBytes + 1 ≡ length result }
+    ensures whole { most_bytes + 1 ≡ length result }
 {
     [0; INPUT_ROOM]
 }
@@ -48,7 +48,7 @@ fn put_text(out: &mut [u8], at: usize, text: &[u8]) -> usize
 fn put_digit(out: &mut [u8], at: usize, n: u64, unit: u64) -> usize
     requires unit { 0 < unit }
     requires room { at < length out.old }
-    ensures put { Put out.old at (digitFor unit n) out.new result }
+    ensures put { Put out.old at (digit_for unit n) out.new result }
 {
     if n < unit {
         return at;
@@ -71,7 +71,7 @@ fn put_decimal(out: &mut [u8], at: usize, n: u64) -> usize
 
 fn put_refusal(out: &mut [u8], reason: u64, place: u64) -> usize
     requires room { 25 ≤ length out.old }
-    ensures put { Put out.old 0 (refusalLine reason place) out.new result }
+    ensures put { Put out.old 0 (refusal_line reason place) out.new result }
 {
     let at = put_text(out, 0, b"reason=");
     let at = put_decimal(out, at, reason);
@@ -82,8 +82,8 @@ fn put_refusal(out: &mut [u8], reason: u64, place: u64) -> usize
 
 // Reads a batch under K1's grant. The answer is the call's number.
 fn read_under_k1(batch: &[u8], state: &mut [u8]) -> u64
-    ensures number { result ≡ number_of (exportedRead batch.now k1Grant state.old) }
-    ensures bytes { state.new ≡ exportedReadLeaves batch.now k1Grant state.old }
+    ensures number { result ≡ number_of (exported_read batch.now k1_grant state.old) }
+    ensures bytes { state.new ≡ exported_read_leaves batch.now k1_grant state.old }
 {
     let grant = K1_GRANT;
     irangelda::irangelda_read(batch, &grant, state)
@@ -91,7 +91,7 @@ fn read_under_k1(batch: &[u8], state: &mut [u8]) -> u64
 
 // What is printed of a batch. The answer is how many bytes that is.
 fn report(batch: &[u8], out: &mut [u8]) -> usize
-    requires room { length out.old ≡ mostListed }
+    requires room { length out.old ≡ most_listed }
     ensures count { result ≡ length (printed batch.now) }
     ensures text { out.new ≡ over (printed batch.now) out.old }
 {

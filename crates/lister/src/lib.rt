@@ -3,11 +3,11 @@ ghost use Rattle.std.specs.Prelude.{◌≡◌, ◌+◌, ◌*◌, ◌-◌, ◌<�
 ghost use Rattle.std.proofs.lemmas.List.Edits.{sets};
 ghost use Rattle.laws.specs.Lists.{join};
 ghost use Rattle.meaning.specs.Words.{words_of};
-ghost use Rattle.meaning.specs.Registers.{firstVideo, endVideo};
-ghost use Rattle.meaning.specs.State.{stateWords, marked, countIn};
-ghost use Rattle.meaning.specs.Lister.{digit, decimal, listAnswer, listLeaves};
-ghost use Rattle.lines.specs.Lines.{digitPairs, cellLine3D, cellLineVideo};
-ghost use Rattle.lister.specs.Listed.{lines_from, headLine};
+ghost use Rattle.meaning.specs.Registers.{first_video, end_video};
+ghost use Rattle.meaning.specs.State.{state_words, marked, count_in};
+ghost use Rattle.meaning.specs.Lister.{digit, decimal, list_answer, list_leaves};
+ghost use Rattle.lines.specs.Lines.{digit_pairs, cell_line_3d, cell_line_video};
+ghost use Rattle.lister.specs.Listed.{lines_from, head_line};
 
 use meaning::{Answer, BAD_STATE, Cell, END_VIDEO, FIRST_VIDEO, NO_ROOM, SUCCESS};
 
@@ -75,7 +75,7 @@ fn put_head(out: &mut [u8], n: usize, digits: usize)
     requires small { n < 1000 }
     requires digits { digits ≡ length (decimal n) }
     requires room { 7 + digits ≤ length out.old }
-    ensures stored { out.new ≡ sets out.old 0 (headLine n) }
+    ensures stored { out.new ≡ sets out.old 0 (head_line n) }
 {
     out[0] = b'c';
     out[1] = b'e';
@@ -98,11 +98,11 @@ fn put_lines_3d(
     first: usize,
     count: usize,
 )
-    requires table { pairs.now ≡ digitPairs }
-    requires whole { length (words_of state.now) ≡ stateWords }
-    requires count { count ≡ countIn (marked (words_of state.now)) first (firstVideo - first) }
-    requires room { start + 26 * countIn (marked (words_of state.now)) first (firstVideo - first) ≤ length out.old }
-    ensures stored { out.new ≡ sets out.old start (join (lines_from cellLine3D (words_of state.now) first (firstVideo - first))) }
+    requires table { pairs.now ≡ digit_pairs }
+    requires whole { length (words_of state.now) ≡ state_words }
+    requires count { count ≡ count_in (marked (words_of state.now)) first (first_video - first) }
+    requires room { start + 26 * count_in (marked (words_of state.now)) first (first_video - first) ≤ length out.old }
+    ensures stored { out.new ≡ sets out.old start (join (lines_from cell_line_3d (words_of state.now) first (first_video - first))) }
 {
     let mut left = count;
     let mut at = start;
@@ -118,10 +118,10 @@ fn put_lines_3d(
 }
 
 fn put_lines_video(pairs: &[u8; 512], state: &[u8], out: &mut [u8], start: usize)
-    requires table { pairs.now ≡ digitPairs }
-    requires whole { length (words_of state.now) ≡ stateWords }
-    requires room { start + 22 * countIn (marked (words_of state.now)) firstVideo (endVideo - firstVideo) ≤ length out.old }
-    ensures stored { out.new ≡ sets out.old start (join (lines_from cellLineVideo (words_of state.now) firstVideo (endVideo - firstVideo))) }
+    requires table { pairs.now ≡ digit_pairs }
+    requires whole { length (words_of state.now) ≡ state_words }
+    requires room { start + 22 * count_in (marked (words_of state.now)) first_video (end_video - first_video) ≤ length out.old }
+    ensures stored { out.new ≡ sets out.old start (join (lines_from cell_line_video (words_of state.now) first_video (end_video - first_video))) }
 {
     let mut at = start;
     for c in FIRST_VIDEO..END_VIDEO {
@@ -134,8 +134,8 @@ fn put_lines_video(pairs: &[u8; 512], state: &[u8], out: &mut [u8], start: usize
 
 // Lists the marked cells of a state: 1 if the state is not well-formed, 11 if the output is too short, else 0 and the bytes written.
 pub fn list(state: &[u8], out: &mut [u8]) -> Answer
-    ensures answer { result ≡ listAnswer (words_of state.now) (length out.old) }
-    ensures bytes { out.new ≡ listLeaves (words_of state.now) out.old }
+    ensures answer { result ≡ list_answer (words_of state.now) (length out.old) }
+    ensures bytes { out.new ≡ list_leaves (words_of state.now) out.old }
 {
     if !states::well_formed(state) {
         return Answer {

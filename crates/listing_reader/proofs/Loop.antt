@@ -9,85 +9,85 @@ use native.Mathlib.Nat.{add_assoc}
 use lib.ListN.{length, drop, get_or, set, drop_of_length-le, length-drop, length-set}
 use lib.Seq.{drop-drop, drop-cons}
 use Rattle.meaning.specs.declared.Answer.{Answer}
-use Rattle.meaning.specs.Registers.{cells, firstVideo, cell}
-use Rattle.meaning.specs.State.{stateWords, apply, applyAll}
-use Rattle.meaning.specs.Answers.{success, notListing, answer}
+use Rattle.meaning.specs.Registers.{cells, first_video, cell}
+use Rattle.meaning.specs.State.{state_words, apply, apply_all}
+use Rattle.meaning.specs.Answers.{success, not_listing, answer}
 use Rattle.meaning.specs.Lister.{hex}
-use Rattle.meaning.specs.ListingReader.{along, form_of, tableLines, Outcome, refused, further, with, readLines}
-use Rattle.listings.specs.Lines.{name3D, nameVideo, line_for, lines_from, furthestOf}
-use Rattle.listings.proofs.Forms.{along-within}
-use Rattle.listings.proofs.Numbers.{by_number, line-3D, line-video}
-use Rattle.listings.proofs.Here.{form, here-whole, read_found, read_none}
+use Rattle.meaning.specs.ListingReader.{along, form_of, table_lines, Outcome, refused, further, with, read_lines}
+use Rattle.listings.specs.Lines.{name_3d, name_video, line_for, lines_from, furthest_of}
+use Rattle.listings.proofs.Forms.{along_within}
+use Rattle.listings.proofs.Numbers.{by_number, line_3D_lem, line_video_lem}
+use Rattle.listings.proofs.Here.{form, here_whole, read_found, read_none}
 use Rattle.line_reader.specs.Read.{LineAt}
 
 -- ---- how long a line is
 
-pub width-3D : (c : ℕ) → c < firstVideo → 26 ≡ length (form_of (line_for c))
-unfolding name3D hex
-width-3D c l = rw (line-3D c l)
+pub width_3d : (c : ℕ) → c < first_video → 26 ≡ length (form_of (line_for c))
+unfolding name_3d hex
+width_3d c l = rw (line_3D_lem c l)
 
-pub width-video : (c : ℕ) → firstVideo ≤ c → 22 ≡ length (form_of (line_for c))
-unfolding nameVideo hex
-width-video c l = rw (line-video c l)
+pub width_video : (c : ℕ) → first_video ≤ c → 22 ≡ length (form_of (line_for c))
+unfolding name_video hex
+width_video c l = rw (line_video_lem c l)
 
 -- no text goes further along a line than it is long
-pub furthest-within : (n c : ℕ) (xs : List ℕ) → furthestOf c n xs ≤ length xs
-unfolding furthestOf
-furthest-within zero c xs = omega arith
-furthest-within (suc n) c xs = omega (arith, (along-within (form c) xs).1, furthest-within n (suc c) xs)
+pub furthest_within : (n c : ℕ) (xs : List ℕ) → furthest_of c n xs ≤ length xs
+unfolding furthest_of
+furthest_within zero c xs = omega arith
+furthest_within (suc n) c xs = omega (arith, (along_within (form c) xs).1, furthest_within n (suc c) xs)
 
 -- ---- no line is wanted
 
-read-end : (c : ℕ) → readLines (lines_from c) 0 [] ≡ record { answer = answer success 0; writes = [] }
-unfolding readLines
-read-end c = refl
+read_end : (c : ℕ) → read_lines (lines_from c) 0 [] ≡ record { answer = answer success 0; writes = [] }
+unfolding read_lines
+read_end c = refl
 
-read_more : (c x : ℕ) (xs : List ℕ) → readLines (lines_from c) 0 (x ∷ xs) ≡ refused 0
-unfolding readLines
+read_more : (c x : ℕ) (xs : List ℕ) → read_lines (lines_from c) 0 (x ∷ xs) ≡ refused 0
+unfolding read_lines
 read_more c x xs = refl
 
 -- ---- the loop
 
 module _ (text : List ℕ) (start n : ℕ) (st₀ : List ℕ) where
   abbrev all : Outcome
-  all = readLines tableLines n (drop start text)
+  all = read_lines table_lines n (drop start text)
 
   -- the answer is that for all lines, and the state what they all leave
   abbrev pub Done : Answer → List ℕ → Type 0
-  Done a st = (a ≡ (further start all).answer) × (st ≡ applyAll st₀ all.writes)
+  Done a st = (a ≡ (further start all).answer) × (st ≡ apply_all st₀ all.writes)
 
   -- `left` lines are wanted from `at` on, of the cells from c on
   pub record Lined (at left c : ℕ) (st : List ℕ) : Type 0 where
     pub inside : at ≤ length text
     pub enough : c + left ≤ cells
-    pub size : length st ≡ stateWords
-    pub told : (further at (readLines (lines_from c) left (drop at text))).answer ≡ (further start all).answer
-    pub state : applyAll st (readLines (lines_from c) left (drop at text)).writes ≡ applyAll st₀ all.writes
+    pub size : length st ≡ state_words
+    pub told : (further at (read_lines (lines_from c) left (drop at text))).answer ≡ (further start all).answer
+    pub state : apply_all st (read_lines (lines_from c) left (drop at text)).writes ≡ apply_all st₀ all.writes
 
-  pub lined-start : start ≤ length text → n ≤ cells → length st₀ ≡ stateWords → Lined start n 0 st₀
-  lined-start l k s = record { inside = l; enough = omega arith; size = s; told = rw by_number; state = rw by_number }
+  pub lined_start : start ≤ length text → n ≤ cells → length st₀ ≡ state_words → Lined start n 0 st₀
+  lined_start l k s = record { inside = l; enough = omega arith; size = s; told = rw by_number; state = rw by_number }
 
   module _ {at left c : ℕ} {st : List ℕ} (g : Lined at left c st) where
     -- a reading from here on gives the answer
-    gives : (r : Outcome) → readLines (lines_from c) left (drop at text) ≡ r → ((further at r).answer ≡ (further start all).answer) × (applyAll st r.writes ≡ applyAll st₀ all.writes)
+    gives : (r : Outcome) → read_lines (lines_from c) left (drop at text) ≡ r → ((further at r).answer ≡ (further start all).answer) × (apply_all st r.writes ≡ apply_all st₀ all.writes)
     gives r e = (rw e at g.told, rw e at g.state)
 
-    stops : (p : ℕ) → readLines (lines_from c) left (drop at text) ≡ refused p → Done (answer notListing (at + p)) st
-    unfolding applyAll
+    stops : (p : ℕ) → read_lines (lines_from c) left (drop at text) ≡ refused p → Done (answer not_listing (at + p)) st
+    unfolding apply_all
     stops p e = gives (refused p) e
 
     -- all are read, and the text is at its end
-    pub lined-end : left ≡ 0 → at ≡ length text → Done (answer success at) st
-    unfolding applyAll
-    lined-end z e =
+    pub lined_end : left ≡ 0 → at ≡ length text → Done (answer success at) st
+    unfolding apply_all
+    lined_end z e =
         let d : drop at text ≡ [] = drop_of_length-le text {i = at} (omega arith) in
-        let p = gives (record { answer = answer success 0; writes = [] }) (rw (z, d) (read-end c)) in
+        let p = gives (record { answer = answer success 0; writes = [] }) (rw (z, d) (read_end c)) in
         let y : at + 0 ≡ at = omega arith in
         (rw y at p.0, p.1)
 
     -- or is not
-    pub lined-more : left ≡ 0 → at ≢ length text → {a : Answer} → a ≡ answer notListing at → Done a st
-    lined-more z e a =
+    pub lined_more : left ≡ 0 → at ≢ length text → {a : Answer} → a ≡ answer not_listing at → Done a st
+    lined_more z e a =
         let d = drop-cons text at 0 (omega (arith, g.inside)) in
         let p = stops 0 (rw (z, d) (read_more c (get_or text at 0) (drop (suc at) text))) in
         let y : at + 0 ≡ at = omega arith in
@@ -101,34 +101,34 @@ module _ (text : List ℕ) (start n : ℕ) (st₀ : List ℕ) where
       one_more = omega arith
 
       -- no line that may stand here does
-      pub lined-none : cells ≤ found → {far : ℕ} → far ≡ furthestOf c (cells + 1 - left - c) (drop at text) → {a : Answer} → a ≡ answer notListing (at + far) → Done a st
-      lined-none none f e =
-          let r : readLines (lines_from c) left (drop at text) ≡ refused (furthestOf c (cells + 1 - left - c) (drop at text)) =
-          ap (λ (x : ℕ). readLines (lines_from c) x (drop at text)) one_more ∙ read_none (drop at text) k (cells + 1 - left - c) c (omega (arith, g.enough)) (λ d u l h x. omega (arith, (line.only d u l (omega arith) x).0)) in
+      pub lined_none : cells ≤ found → {far : ℕ} → far ≡ furthest_of c (cells + 1 - left - c) (drop at text) → {a : Answer} → a ≡ answer not_listing (at + far) → Done a st
+      lined_none none f e =
+          let r : read_lines (lines_from c) left (drop at text) ≡ refused (furthest_of c (cells + 1 - left - c) (drop at text)) =
+          ap (λ (x : ℕ). read_lines (lines_from c) x (drop at text)) one_more ∙ read_none (drop at text) k (cells + 1 - left - c) c (omega (arith, g.enough)) (λ d u l h x. omega (arith, (line.only d u l (omega arith) x).0)) in
           let p = stops _ r in
-          (e ∙ ap (λ (x : ℕ). answer notListing (at + x)) f ∙ p.0, p.1)
+          (e ∙ ap (λ (x : ℕ). answer not_listing (at + x)) f ∙ p.0, p.1)
 
       module _ (low : found < cells) where
         here : (c ≤ found) × (found < cells + 1 - left)
         here = ((line.found low).0, (line.found low).1)
 
         -- one does
-        pub line-inside : {w : ℕ} → w ≡ length (form_of (line_for found)) → at + w ≤ length text
-        line-inside e =
-            omega (arith, (along-within (form found) (drop at text)).1, here-whole (drop at text) found low v (line.found low).2, length-drop at text, g.inside)
+        pub line_inside : {w : ℕ} → w ≡ length (form_of (line_for found)) → at + w ≤ length text
+        line_inside e =
+            omega (arith, (along_within (form found) (drop at text)).1, here_whole (drop at text) found low v (line.found low).2, length-drop at text, g.inside)
 
-        pub lined-next : {w : ℕ} → w ≡ length (form_of (line_for found)) → Lined (at + w) (left - 1) (found + 1) (set (set st found v) (cells + found) 1)
-        unfolding applyAll apply
-        lined-next {w} e =
-            let rest = readLines (lines_from (found + 1)) (left - 1) (drop (at + w) text) in
-            let r : readLines (lines_from c) left (drop at text) ≡ further w (with (record { cell = cell found; value = v }) rest) =
-            ap (λ (x : ℕ). readLines (lines_from c) x (drop at text)) one_more
+        pub lined_next : {w : ℕ} → w ≡ length (form_of (line_for found)) → Lined (at + w) (left - 1) (found + 1) (set (set st found v) (cells + found) 1)
+        unfolding apply_all apply
+        lined_next {w} e =
+            let rest = read_lines (lines_from (found + 1)) (left - 1) (drop (at + w) text) in
+            let r : read_lines (lines_from c) left (drop at text) ≡ further w (with (record { cell = cell found; value = v }) rest) =
+            ap (λ (x : ℕ). read_lines (lines_from c) x (drop at text)) one_more
             ∙ read_found (drop at text) k c found v here.0 (omega (arith, here.1)) (line.found low).2
             ∙ rw (← e, drop-drop w at text) in
             let p = gives _ r in
             let place : at + w + rest.answer.place ≡ at + (w + rest.answer.place) = omega arith in
             record {
-              inside = line-inside e;
+              inside = line_inside e;
               enough = omega (arith, here.1);
               size = length-set (set st found v) (cells + found) 1 ∙ length-set st found v ∙ g.size;
               told = ap (answer rest.answer.reason) place ∙ p.0;

@@ -13,28 +13,28 @@ use lib.Seq.{drop-cons}
 use Rattle.laws.specs.Lists.{over}
 use Rattle.meaning.specs.declared.Answer.{Answer}
 use Rattle.meaning.specs.Words.{words_of, bytes_of}
-use Rattle.meaning.specs.State.{stateWords, empty, Write, applyAll}
-use Rattle.meaning.specs.Answers.{badState, notListing, answer, settle}
+use Rattle.meaning.specs.State.{state_words, empty, Write, apply_all}
+use Rattle.meaning.specs.Answers.{bad_state, not_listing, answer, settle}
 use Rattle.meaning.specs.Text.{ascii}
-use Rattle.meaning.specs.ListingReader.{fixed, along, headForm, tableLines, Outcome, refused, further, readLines, read_first, readText, listingAnswer, listingLeaves}
-use Rattle.meaning.proofs.Bytes.{length-words, settle-done, settle-refused}
-use Rattle.meaning.proofs.States.{length-applied}
-use Rattle.listings.proofs.Forms.{along-within}
+use Rattle.meaning.specs.ListingReader.{fixed, along, head_form, table_lines, Outcome, refused, further, read_lines, read_first, read_text, listing_answer, listing_leaves}
+use Rattle.meaning.proofs.Bytes.{length_words, settle_done, settle_refused}
+use Rattle.meaning.proofs.States.{length_applied}
+use Rattle.listings.proofs.Forms.{along_within}
 use Rattle.listing_reader.specs.Counted.{CountRun}
 
 -- ---- the key
 
-module _ (text : List ℕ) (a : ℕ) (e : a ≡ along headForm text) where
-  pub key_left : a < 6 → readText text ≡ refused a
-  unfolding readText
+module _ (text : List ℕ) (a : ℕ) (e : a ≡ along head_form text) where
+  pub key_left : a < 6 → read_text text ≡ refused a
+  unfolding read_text
   key_left l = rw (← e, ne_eqb a 6 (λ z. omega arith))
 
-  pub key-on : 6 ≤ a → readText text ≡ further 6 (read_first (drop 6 text))
-  unfolding readText
-  key-on l = let z : along headForm text ≡ 6 = omega (arith, (along-within headForm text).0) in rw z
+  pub key_on : 6 ≤ a → read_text text ≡ further 6 (read_first (drop 6 text))
+  unfolding read_text
+  key_on l = let z : along head_form text ≡ 6 = omega (arith, (along_within head_form text).0) in rw z
 
-  pub key-inside : 6 ≤ a → 6 ≤ length text
-  key-inside l = omega (arith, (along-within headForm text).1)
+  pub key_inside : 6 ≤ a → 6 ≤ length text
+  key_inside l = omega (arith, (along_within head_form text).1)
 
 -- ---- the call
 
@@ -44,53 +44,53 @@ module _ (text st : List ℕ) where
 
   -- what the contract asks of an answer and of the bytes that are left
   abbrev pub Answered : Answer → List ℕ → Type 0
-  Answered a left = (a ≡ listingAnswer text old) × (left ≡ settle a (over (bytes_of (listingLeaves text old)) st) st)
+  Answered a left = (a ≡ listing_answer text old) × (left ≡ settle a (over (bytes_of (listing_leaves text old)) st) st)
 
-  unchanged : (a : Answer) → a ≡ listingAnswer text old → a.reason ≢ 0 → Answered a st
-  unchanged a e n = (e, sym (settle-refused a _ st n))
+  unchanged : (a : Answer) → a ≡ listing_answer text old → a.reason ≢ 0 → Answered a st
+  unchanged a e n = (e, sym (settle_refused a _ st n))
 
-  pub wrong-length : length st / 4 ≢ stateWords → Answered (answer badState 0) st
-  unfolding listingAnswer
-  wrong-length n = unchanged (answer badState 0) (rw (ne_eqb (length old) stateWords (λ e. n (sym (length-words st) ∙ e)))) (λ z. omega arith)
+  pub wrong_length : length st / 4 ≢ state_words → Answered (answer bad_state 0) st
+  unfolding listing_answer
+  wrong_length n = unchanged (answer bad_state 0) (rw (ne_eqb (length old) state_words (λ e. n (sym (length_words st) ∙ e)))) (λ z. omega arith)
 
-  module _ (n : length st / 4 ≡ stateWords) where
-    long : length old ≡ stateWords
-    long = length-words st ∙ n
+  module _ (n : length st / 4 ≡ state_words) where
+    long : length old ≡ state_words
+    long = length_words st ∙ n
 
-    answers : listingAnswer text old ≡ (readText text).answer
-    unfolding listingAnswer
-    answers = rw (eq-eqb (length old) stateWords long)
+    answers : listing_answer text old ≡ (read_text text).answer
+    unfolding listing_answer
+    answers = rw (eq-eqb (length old) state_words long)
 
     -- a reading that is refused, and one that is not
-    pub call-refused : (r : Outcome) → readText text ≡ r → r.answer.reason ≢ 0 → Answered r.answer st
-    call-refused r e z = unchanged r.answer (ap (λ (x : Outcome). x.answer) (sym e) ∙ sym answers) z
+    pub call_refused : (r : Outcome) → read_text text ≡ r → r.answer.reason ≢ 0 → Answered r.answer st
+    call_refused r e z = unchanged r.answer (ap (λ (x : Outcome). x.answer) (sym e) ∙ sym answers) z
 
-    call-done : (r : Outcome) → readText text ≡ r → r.answer.reason ≡ 0 → (new left : List ℕ) → new ≡ applyAll empty r.writes → left ≡ over (bytes_of new) st
+    call_done : (r : Outcome) → read_text text ≡ r → r.answer.reason ≡ 0 → (new left : List ℕ) → new ≡ apply_all empty r.writes → left ≡ over (bytes_of new) st
         → Answered r.answer left
-    unfolding listingLeaves
-    call-done r e z new left w l =
-        let a : r.answer ≡ listingAnswer text old = ap (λ (x : Outcome). x.answer) (sym e) ∙ sym answers in
-        let s : listingLeaves text old ≡ new = settle-done (listingAnswer text old) _ old (ap (λ (x : Answer). x.reason) (sym a) ∙ z) ∙ rw e (sym w) in
-        (a, l ∙ ap (λ (x : List ℕ). over (bytes_of x) st) (sym s) ∙ sym (settle-done r.answer _ st z))
+    unfolding listing_leaves
+    call_done r e z new left w l =
+        let a : r.answer ≡ listing_answer text old = ap (λ (x : Outcome). x.answer) (sym e) ∙ sym answers in
+        let s : listing_leaves text old ≡ new = settle_done (listing_answer text old) _ old (ap (λ (x : Answer). x.reason) (sym a) ∙ z) ∙ rw e (sym w) in
+        (a, l ∙ ap (λ (x : List ℕ). over (bytes_of x) st) (sym s) ∙ sym (settle_done r.answer _ st z))
 
-    module _ (k : readText text ≡ further 6 (read_first (drop 6 text))) {fine : Bool} {at count : ℕ} (c : CountRun text 6 fine at count) where
+    module _ (k : read_text text ≡ further 6 (read_first (drop 6 text))) {fine : Bool} {at count : ℕ} (c : CountRun text 6 fine at count) where
       -- the count is none
-      pub count-refused : fine ≡ false → Answered (answer notListing at) st
-      count-refused f = call-refused (refused at) (k ∙ (rw f at c.goes)) (λ z. omega arith)
+      pub count_refused : fine ≡ false → Answered (answer not_listing at) st
+      count_refused f = call_refused (refused at) (k ∙ (rw f at c.goes)) (λ z. omega arith)
 
-      module _ (f : fine ≡ true) (r : Answer) (e : r ≡ (further at (readLines tableLines count (drop at text))).answer) where
+      module _ (f : fine ≡ true) (r : Answer) (e : r ≡ (further at (read_lines table_lines count (drop at text))).answer) where
         abbrev lines : Outcome
-        lines = further at (readLines tableLines count (drop at text))
+        lines = further at (read_lines table_lines count (drop at text))
 
-        read : readText text ≡ further at (readLines tableLines count (drop at text))
+        read : read_text text ≡ further at (read_lines table_lines count (drop at text))
         read = k ∙ (rw f at c.goes)
 
-        pub lines-refused : r.reason ≢ 0 → Answered r st
-        lines-refused z = rw e (call-refused lines read (λ y. z (ap (λ (x : Answer). x.reason) e ∙ y)))
+        pub lines_refused : r.reason ≢ 0 → Answered r st
+        lines_refused z = rw e (call_refused lines read (λ y. z (ap (λ (x : Answer). x.reason) e ∙ y)))
 
-        pub lines-done : (new left : List ℕ) → new ≡ applyAll empty (readLines tableLines count (drop at text)).writes → r.reason ≡ 0 → left ≡ over (bytes_of new) st → Answered r left
-        lines-done new left w z l = rw e (call-done lines read (sym (ap (λ (x : Answer). x.reason) e) ∙ z) new left w l)
+        pub lines_done : (new left : List ℕ) → new ≡ apply_all empty (read_lines table_lines count (drop at text)).writes → r.reason ≡ 0 → left ≡ over (bytes_of new) st → Answered r left
+        lines_done new left w z l = rw e (call_done lines read (sym (ap (λ (x : Answer). x.reason) e) ∙ z) new left w l)
 
-pub read_length : (new : List ℕ) (ws : List Write) → new ≡ applyAll empty ws → length new ≡ stateWords
+pub read_length : (new : List ℕ) (ws : List Write) → new ≡ apply_all empty ws → length new ≡ state_words
 unfolding empty
-read_length new ws e = ap length e ∙ length-applied empty ws ∙ length-replicate {A = ℕ} stateWords 0
+read_length new ws e = ap length e ∙ length_applied empty ws ∙ length-replicate {A = ℕ} state_words 0

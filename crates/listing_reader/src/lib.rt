@@ -4,12 +4,12 @@ ghost use Rattle.std.specs.Prelude.{◌≡◌, false, ◌<◌, ◌≤◌, length
 ghost use Rattle.laws.specs.Lists.{over};
 ghost use Rattle.meaning.specs.Words.{words_of, bytes_of};
 ghost use Rattle.meaning.specs.Registers.{cells};
-ghost use Rattle.meaning.specs.State.{stateWords, applyAll};
-ghost use Rattle.meaning.specs.Answers.{answer, notListing, settle};
-ghost use Rattle.meaning.specs.ListingReader.{along, form_of, headForm, tableLines, further, readLines, listingAnswer, listingLeaves};
+ghost use Rattle.meaning.specs.State.{state_words, apply_all};
+ghost use Rattle.meaning.specs.Answers.{answer, not_listing, settle};
+ghost use Rattle.meaning.specs.ListingReader.{along, form_of, head_form, table_lines, further, read_lines, listing_answer, listing_leaves};
 ghost use Rattle.listings.specs.Lines.{line_for};
-ghost use Rattle.line_reader.specs.Named.{digitTable};
-ghost use Rattle.listing_reader.specs.Counted.{decimalOr10, CountRun};
+ghost use Rattle.line_reader.specs.Named.{digit_table};
+ghost use Rattle.listing_reader.specs.Counted.{decimal_or_10, CountRun};
 
 use meaning::{Answer, BAD_STATE, CELLS, FIRST_VIDEO, NOT_A_LISTING, STATE_WORDS, SUCCESS, State};
 
@@ -35,7 +35,7 @@ const DIGITS: [u8; 256] = *b"\
     ";
 
 fn refused(place: usize) -> Answer
-    ensures answer { result ≡ answer notListing place }
+    ensures answer { result ≡ answer not_listing place }
 {
     Answer {
         reason: NOT_A_LISTING,
@@ -55,12 +55,12 @@ fn width(c: usize) -> usize
 
 // The lines from `start` on, of which n are wanted, into an empty state. A line that leaves too few cells for those still wanted is none.
 fn read_lines(digits: &[u8; 256], text: &[u8], start: usize, n: usize, state: &mut State) -> Answer
-    requires table { digits.now ≡ digitTable }
+    requires table { digits.now ≡ digit_table }
     requires inside { start ≤ length text.now }
     requires few { n ≤ cells }
-    requires array { length state.old ≡ stateWords }
-    ensures answer { result ≡ (further start (readLines tableLines n (drop start text.now))).answer }
-    ensures state { state.new ≡ applyAll state.old (readLines tableLines n (drop start text.now)).writes }
+    requires array { length state.old ≡ state_words }
+    ensures answer { result ≡ (further start (read_lines table_lines n (drop start text.now))).answer }
+    ensures state { state.new ≡ apply_all state.old (read_lines table_lines n (drop start text.now)).writes }
 {
     let mut at = start;
     let mut left = n;
@@ -89,7 +89,7 @@ fn read_lines(digits: &[u8; 256], text: &[u8], start: usize, n: usize, state: &m
 
 // What a decimal digit counts; 10 for any other byte.
 fn decimal_of(x: u8) -> usize
-    ensures digit { result ≡ decimalOr10 x }
+    ensures digit { result ≡ decimal_or_10 x }
 {
     match x {
         48..=57 => x as usize - 48,
@@ -155,7 +155,7 @@ fn read_count(text: &[u8], start: usize) -> Head
 
 // How many bytes from the front on are those of the first line's key.
 fn key_bytes(text: &[u8]) -> usize
-    ensures bytes { result ≡ along headForm text.now }
+    ensures bytes { result ≡ along head_form text.now }
 {
     let key = *b"cells=";
     let mut i = 0;
@@ -174,8 +174,8 @@ fn key_bytes(text: &[u8]) -> usize
 // Reads a listing back: 1 if the buffer of the state is not as long as a state, 19 at the first byte that begins no listing, or at
 // the text's length if it is cut short; else 0 and the text's length. What the buffer held does not matter, and a refusal leaves it; bytes past its last whole word stay.
 pub fn read_listing(text: &[u8], state: &mut [u8]) -> Answer
-    ensures answer { result ≡ listingAnswer text.now (words_of state.old) }
-    ensures bytes { state.new ≡ settle result (over (bytes_of (listingLeaves text.now (words_of state.old))) state.old) state.old }
+    ensures answer { result ≡ listing_answer text.now (words_of state.old) }
+    ensures bytes { state.new ≡ settle result (over (bytes_of (listing_leaves text.now (words_of state.old))) state.old) state.old }
 {
     if state.len() / 4 != STATE_WORDS {
         return Answer {

@@ -6,11 +6,11 @@ use Prim.Native.Nat.{ℕ}
 use Prim.Native.String.{String}
 use Rattle.laws.specs.Lists.{All, from}
 use Rattle.meaning.specs.declared.Answer.{Answer}
-use Rattle.meaning.specs.Registers.{targetGroup, stage, sample, overlay, scaler, sections}
+use Rattle.meaning.specs.Registers.{target_group, stage, sample, overlay, scaler, sections}
 use Rattle.meaning.specs.Answers.{answer}
 use Rattle.meaning.specs.Text.{ascii}
 use Rattle.meaning.specs.Lister.{digit, hex}
-use Rattle.meaning.specs.ListingReader.{isHex, along, digitWorth, worth, tableLines, readLines, readCount, read_first, readText}
+use Rattle.meaning.specs.ListingReader.{is_hex, along, digit_worth, worth, table_lines, read_lines, read_count, read_first, read_text}
 
 -- a text and its answer
 pub record Example : Type 0 where
@@ -56,7 +56,7 @@ texts =
     ∷ []
 
 -- each as it says
-pub texts-hold : All (λ (e : Example). (readText (ascii e.text)).answer ≡ e.answer) texts
-unfolding texts readText read_first readCount readLines along isHex digitWorth worth tableLines sections targetGroup stage sample overlay scaler from hex digit
-texts-hold =
+pub texts_hold : All (λ (e : Example). (read_text (ascii e.text)).answer ≡ e.answer) texts
+unfolding texts read_text read_first read_count read_lines along is_hex digit_worth worth table_lines sections target_group stage sample overlay scaler from hex digit
+texts_hold =
     (refl, (refl, (refl, (refl, (refl, (refl, (refl, (refl, (refl, (refl, (refl, (refl, (refl, (refl, (refl, (refl, (refl, (refl, (refl, (refl, (refl, tt)))))))))))))))))))))

@@ -9,32 +9,32 @@ use lib.Dec.{T, eqb}
 use lib.ListN.{length, take, drop}
 use mir.Facts.{eqb_yes, yes_eqb}
 use Rattle.laws.proofs.Tests.{true_of, holds_of}
-use Rattle.meaning.specs.ListingReader.{Slot, fixed, any_digit, isHex, takes, along}
+use Rattle.meaning.specs.ListingReader.{Slot, fixed, any_digit, is_hex, takes, along}
 
 -- the text follows the form to its end
 pub data Follows : List Slot → List ℕ → Type 0 where
   end : Follows [] []
   next : {s : Slot} {f : List Slot} {t : ℕ} {ts : List ℕ} → T (takes s t) → Follows f ts → Follows (s ∷ f) (t ∷ ts)
 
-pub follows-length : {f : List Slot} {xs : List ℕ} → Follows f xs → length xs ≡ length f
-follows-length end = refl
-follows-length (next t r) = ap suc (follows-length r)
+pub follows_length : {f : List Slot} {xs : List ℕ} → Follows f xs → length xs ≡ length f
+follows_length end = refl
+follows_length (next t r) = ap suc (follows_length r)
 
 -- ---- one byte
 
-along-true : (s : Slot) (f : List Slot) (x : ℕ) (xs : List ℕ) → T (takes s x) → along (s ∷ f) (x ∷ xs) ≡ suc (along f xs)
+along_true : (s : Slot) (f : List Slot) (x : ℕ) (xs : List ℕ) → T (takes s x) → along (s ∷ f) (x ∷ xs) ≡ suc (along f xs)
 unfolding along
-along-true s f x xs t = rw (true_of (takes s x) t)
+along_true s f x xs t = rw (true_of (takes s x) t)
 
-along-false : (s : Slot) (f : List Slot) (x : ℕ) (xs : List ℕ) → takes s x ≡ false → along (s ∷ f) (x ∷ xs) ≡ 0
+along_false : (s : Slot) (f : List Slot) (x : ℕ) (xs : List ℕ) → takes s x ≡ false → along (s ∷ f) (x ∷ xs) ≡ 0
 unfolding along
-along-false s f x xs e = rw e
+along_false s f x xs e = rw e
 
-pub along-within : (f : List Slot) (xs : List ℕ) → (along f xs ≤ length f) × (along f xs ≤ length xs)
+pub along_within : (f : List Slot) (xs : List ℕ) → (along f xs ≤ length f) × (along f xs ≤ length xs)
 unfolding along
-along-within [] xs = (omega arith, omega arith)
-along-within (s ∷ f) [] = (omega arith, omega arith)
-along-within (s ∷ f) (x ∷ xs) = by (takes s x) (along-within f xs)
+along_within [] xs = (omega arith, omega arith)
+along_within (s ∷ f) [] = (omega arith, omega arith)
+along_within (s ∷ f) (x ∷ xs) = by (takes s x) (along_within f xs)
   where
     by : (b : Bool) → (along f xs ≤ length f) × (along f xs ≤ length xs)
         → (cond b (suc (along f xs)) 0 ≤ suc (length f)) × (cond b (suc (along f xs)) 0 ≤ suc (length xs))
@@ -44,21 +44,21 @@ along-within (s ∷ f) (x ∷ xs) = by (takes s x) (along-within f xs)
 -- ---- whole
 
 -- what goes along to the end of a form follows it
-pub whole-follows : (f : List Slot) (xs : List ℕ) → along f xs ≡ length f → Follows f (take (length f) xs)
+pub whole_follows : (f : List Slot) (xs : List ℕ) → along f xs ≡ length f → Follows f (take (length f) xs)
 unfolding along
-whole-follows [] xs e = end
-whole-follows (s ∷ f) [] e = absurd (omega arith)
-whole-follows (s ∷ f) (x ∷ xs) e = by (takes s x) refl e (whole-follows f xs)
+whole_follows [] xs e = end
+whole_follows (s ∷ f) [] e = absurd (omega arith)
+whole_follows (s ∷ f) (x ∷ xs) e = by (takes s x) refl e (whole_follows f xs)
   where
     by : (b : Bool) → takes s x ≡ b → cond b (suc (along f xs)) 0 ≡ suc (length f) → (along f xs ≡ length f → Follows f (take (length f) xs))
         → Follows (s ∷ f) (x ∷ take (length f) xs)
     by true h k more = next (holds_of h) (more (omega arith))
     by false h k more = absurd (omega arith)
 
-pub follows-whole : {f : List Slot} {ts : List ℕ} → Follows f ts → (zs : List ℕ) → along f (ts ++ zs) ≡ length f
+pub follows_whole : {f : List Slot} {ts : List ℕ} → Follows f ts → (zs : List ℕ) → along f (ts ++ zs) ≡ length f
 unfolding along
-follows-whole end zs = refl
-follows-whole (next {s} {f} {t} {ts} h r) zs = along-true s f t (ts ++ zs) h ∙ ap suc (follows-whole r zs)
+follows_whole end zs = refl
+follows_whole (next {s} {f} {t} {ts} h r) zs = along_true s f t (ts ++ zs) h ∙ ap suc (follows_whole r zs)
 
 -- ---- beginnings
 
@@ -67,8 +67,8 @@ pub data Meets (f : List Slot) (xs : List ℕ) (n : ℕ) (more zs : List ℕ) : 
   inside : n ≤ along f xs → Meets f xs n more zs
   beyond : (m : ℕ) → along f xs ≡ length f → n ≡ length f + m → zs ≡ take m (drop (length f) xs) ++ more → Meets f xs n more zs
 
-head-same : {x t : ℕ} {xs ts : List ℕ} → x ∷ xs ≡ t ∷ ts → (x ≡ t) × (xs ≡ ts)
-head-same e = (cc, cc)
+head_same : {x t : ℕ} {xs ts : List ℕ} → x ∷ xs ≡ t ∷ ts → (x ≡ t) × (xs ≡ ts)
+head_same e = (cc, cc)
 
 pub meets : {f : List Slot} {ts : List ℕ} (xs : List ℕ) (n : ℕ) (more zs : List ℕ) → Follows f ts → take n xs ++ more ≡ ts ++ zs → n ≤ length xs
     → Meets f xs n more zs
@@ -77,9 +77,9 @@ meets xs n more zs end e l = beyond n refl (omega arith) (sym e)
 meets xs zero more zs (next t r) e l = inside (omega arith)
 meets [] (suc n) more zs (next t r) e l = absurd (omega arith)
 meets (x ∷ xs) (suc n) more zs (next {s} {f} {t} {ts} h r) e l =
-    let p = head-same e in
+    let p = head_same e in
     let k : T (takes s x) = rw p.0 h in
-    by (along-true s f x xs k) (meets xs n more zs r p.1 (omega arith))
+    by (along_true s f x xs k) (meets xs n more zs r p.1 (omega arith))
   where
     by : along (s ∷ f) (x ∷ xs) ≡ suc (along f xs) → Meets f xs n more zs → Meets (s ∷ f) (x ∷ xs) (suc n) more zs
     by a (inside m) = inside (omega arith)
@@ -98,24 +98,24 @@ sample : Slot → ℕ
 sample (fixed b) = b
 sample any_digit = 48
 
-sample-taken : (s : Slot) → T (takes s (sample s))
-unfolding sample isHex
-sample-taken (fixed b) = yes_eqb {a = b} refl
-sample-taken any_digit = tt
+sample_taken : (s : Slot) → T (takes s (sample s))
+unfolding sample is_hex
+sample_taken (fixed b) = yes_eqb {a = b} refl
+sample_taken any_digit = tt
 
-pub some-text : (f : List Slot) → (ts : List ℕ) × Follows f ts
-some-text [] = ([], end)
-some-text (s ∷ f) = let r = some-text f in (sample s ∷ r.0, next (sample-taken s) r.1)
+pub some_text : (f : List Slot) → (ts : List ℕ) × Follows f ts
+some_text [] = ([], end)
+some_text (s ∷ f) = let r = some_text f in (sample s ∷ r.0, next (sample_taken s) r.1)
 
 pub completed : (f : List Slot) (xs : List ℕ) → Completed f xs
 unfolding along
 completed [] xs = record { text = []; rest = []; follows = end; same = refl }
-completed (s ∷ f) [] = let r = some-text (s ∷ f) in record { text = r.0; rest = r.0; follows = r.1; same = refl }
+completed (s ∷ f) [] = let r = some_text (s ∷ f) in record { text = r.0; rest = r.0; follows = r.1; same = refl }
 completed (s ∷ f) (x ∷ xs) = by (takes s x) refl (completed f xs)
   where
     by : (b : Bool) → takes s x ≡ b → Completed f xs → Completed (s ∷ f) (x ∷ xs)
     by true e c = record { text = x ∷ c.text; rest = c.rest; follows = next (holds_of e) c.follows; same = rw e (ap (λ (l : List ℕ). x ∷ l) c.same) }
-    by false e c = let r = some-text (s ∷ f) in record { text = r.0; rest = r.0; follows = r.1; same = rw e refl }
+    by false e c = let r = some_text (s ∷ f) in record { text = r.0; rest = r.0; follows = r.1; same = rw e refl }
 
 -- ---- forms that no text follows both
 
@@ -130,14 +130,14 @@ apart [] g = false
 abbrev Short : List Slot → List Slot → ℕ → Type 0
 Short f g n = (n < suc (length g)) × (n < suc (length f))
 
-pub apart-along : (f g : List Slot) (xs : List ℕ) → T (apart f g) → along f xs ≡ length f → (along g xs < length g) × (along g xs < length f)
+pub apart_along : (f g : List Slot) (xs : List ℕ) → T (apart f g) → along f xs ≡ length f → (along g xs < length g) × (along g xs < length f)
 unfolding along apart
-apart-along [] g xs t e = absurd t
-apart-along (any_digit ∷ f) g xs t e = absurd t
-apart-along (fixed a ∷ f) [] xs t e = absurd t
-apart-along (fixed a ∷ f) (any_digit ∷ g) xs t e = absurd t
-apart-along (fixed a ∷ f) (fixed b ∷ g) [] t e = absurd (omega arith)
-apart-along (fixed a ∷ f) (fixed b ∷ g) (x ∷ xs) t e = by (eqb x a) refl (eqb a b) refl (eqb x b) refl t e (apart-along f g xs)
+apart_along [] g xs t e = absurd t
+apart_along (any_digit ∷ f) g xs t e = absurd t
+apart_along (fixed a ∷ f) [] xs t e = absurd t
+apart_along (fixed a ∷ f) (any_digit ∷ g) xs t e = absurd t
+apart_along (fixed a ∷ f) (fixed b ∷ g) [] t e = absurd (omega arith)
+apart_along (fixed a ∷ f) (fixed b ∷ g) (x ∷ xs) t e = by (eqb x a) refl (eqb a b) refl (eqb x b) refl t e (apart_along f g xs)
   where
     rest : (r : Bool) → (along g xs < length g) × (along g xs < length f) → Short f g (cond r (suc (along g xs)) 0)
     rest true h = (omega (arith, h.0), omega (arith, h.1))

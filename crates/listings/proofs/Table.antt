@@ -4,16 +4,16 @@ use mathlib.Core.Path.{◌≡◌, refl}
 use lib.Dec.{T}
 use lib.ListN.{length}
 use Rattle.laws.specs.Lists.{every, from}
-use Rattle.meaning.specs.Registers.{cells, targetGroup, stage, sample, overlay, scaler, sections}
+use Rattle.meaning.specs.Registers.{cells, target_group, stage, sample, overlay, scaler, sections}
 use Rattle.meaning.specs.Lister.{digit, hex}
-use Rattle.meaning.specs.ListingReader.{tableLines}
+use Rattle.meaning.specs.ListingReader.{table_lines}
 use Rattle.listings.proofs.Forms.{apart}
-use Rattle.listings.proofs.Lines.{allApart}
+use Rattle.listings.proofs.Lines.{all_apart}
 
-pub lines-101 : length tableLines ≡ cells
-unfolding tableLines sections targetGroup stage sample overlay scaler from
-lines-101 = refl
+pub lines_101 : length table_lines ≡ cells
+unfolding table_lines sections target_group stage sample overlay scaler from
+lines_101 = refl
 
-pub lines-apart : T (allApart tableLines)
-unfolding allApart apart every tableLines sections targetGroup stage sample overlay scaler from hex digit
-lines-apart = tt
+pub lines_apart : T (all_apart table_lines)
+unfolding all_apart apart every table_lines sections target_group stage sample overlay scaler from hex digit
+lines_apart = tt

@@ -9,9 +9,9 @@ use native.Mathlib.Decide.{dec_lt}
 use lib.ListN.{length, take, drop, length-drop, take-append-drop}
 use lib.Seq.{take-add, take-length, drop_at}
 use Rattle.meaning.specs.State.{Write}
-use Rattle.meaning.specs.Answers.{answer, notListing}
+use Rattle.meaning.specs.Answers.{answer, not_listing}
 use Rattle.meaning.specs.ListingReader.{Slot, along, Outcome, refused, at_least}
-use Rattle.listings.proofs.Forms.{Follows, follows-length, along-within, whole-follows, follows-whole, Meets, inside, beyond, meets, completed}
+use Rattle.listings.proofs.Forms.{Follows, follows_length, along_within, whole_follows, follows_whole, Meets, inside, beyond, meets, completed}
 
 -- texts, and what each writes
 abbrev pub Texts : Type 1
@@ -35,7 +35,7 @@ pub record Tells (L : Texts) (xs : List ℕ) (r : Outcome) : Type 0 where
   pub inside : r.answer.place ≤ length xs
   pub begun : 0 < r.answer.place → Starts L xs r.answer.place
   pub longest : (n : ℕ) → n ≤ length xs → Starts L xs n → n ≤ r.answer.place
-  pub refusal : r.answer.reason ≢ 0 → r.answer.reason ≡ notListing
+  pub refusal : r.answer.reason ≢ 0 → r.answer.reason ≡ not_listing
 
 -- a refusal at 0 where no text has a first byte as here
 pub tells_none : (L : Texts) (xs : List ℕ) → ((n : ℕ) → n ≤ length xs → Starts L xs n → n ≤ 0) → ((ws : List Write) → L xs ws → ⊥) → Tells L xs (refused 0)
@@ -49,12 +49,12 @@ tells_none L xs h none = record {
 }
 
 -- the whole text is a beginning
-pub all-starts : (L : Texts) (xs : List ℕ) (ws : List Write) → L xs ws → Starts L xs (length xs)
-all-starts L xs ws i = record { more = []; writes = ws; whole = rw (take-length xs, append-nil xs) i }
+pub all_starts : (L : Texts) (xs : List ℕ) (ws : List Write) → L xs ws → Starts L xs (length xs)
+all_starts L xs ws i = record { more = []; writes = ws; whole = rw (take-length xs, append-nil xs) i }
 
 -- at the place, if there is a text at all
-pub starts-there : (L : Texts) (xs : List ℕ) (r : Outcome) → Some L → Tells L xs r → Starts L xs r.answer.place
-starts-there L xs r s t = by r.answer.place refl
+pub starts_there : (L : Texts) (xs : List ℕ) (r : Outcome) → Some L → Tells L xs r → Starts L xs r.answer.place
+starts_there L xs r s t = by r.answer.place refl
   where
     by : (p : ℕ) → r.answer.place ≡ p → Starts L xs p
     by zero e = record { more = s.text; writes = s.writes; whole = s.whole }
@@ -87,19 +87,19 @@ module _ (f : List Slot) (w : List ℕ → List Write → List Write) (L M : Tex
   module _ (e : along f xs ≡ length f) (others : (n : ℕ) → n ≤ length xs → Starts M xs n → n < length f) (r : Outcome) (some : Some L)
       (t : Tells L (drop (along f xs) xs) r) where
     long : length f ≤ length xs
-    long = omega (arith, (along-within f xs).1)
+    long = omega (arith, (along_within f xs).1)
 
     dropped : length (drop (along f xs) xs) + length f ≡ length xs
     dropped = omega (arith, long, length-drop (along f xs) xs)
 
-    whole-right : r.answer.reason ≡ 0 → Either f w L M xs (w xs r.writes) × (along f xs + r.answer.place ≡ length xs)
-    whole-right z =
+    whole_right : r.answer.reason ≡ 0 → Either f w L M xs (w xs r.writes) × (along f xs + r.answer.place ≡ length xs)
+    whole_right z =
         let p = t.right z in (
           this (record {
             front = take (length f) xs;
             rest = drop (along f xs) xs;
             later = r.writes;
-            follows = whole-follows f xs e;
+            follows = whole_follows f xs e;
             texts = p.0;
             parts = rw e (sym (take-append-drop (length f) xs));
             all = refl;
@@ -107,17 +107,17 @@ module _ (f : List Slot) (w : List ℕ → List Write → List Write) (L M : Tex
           omega (arith, p.1, dropped),
         )
 
-    whole-found : (vs : List Write) → Either f w L M xs vs → (r.answer.reason ≡ 0) × (w xs r.writes ≡ vs)
-    whole-found vs (this h) =
-        let d : drop (along f xs) xs ≡ h.rest = rw (e, h.parts) (drop_at h.front h.rest (length f) (follows-length h.follows)) in
+    whole_found : (vs : List Write) → Either f w L M xs vs → (r.answer.reason ≡ 0) × (w xs r.writes ≡ vs)
+    whole_found vs (this h) =
+        let d : drop (along f xs) xs ≡ h.rest = rw (e, h.parts) (drop_at h.front h.rest (length f) (follows_length h.follows)) in
         let p = t.found h.later (rw d h.texts) in
         (p.0, ap (w xs) p.1 ∙ sym h.all)
-    whole-found vs (that m) = absurd (omega (arith, others (length xs) (omega arith) (all-starts M xs vs m), long))
+    whole_found vs (that m) = absurd (omega (arith, others (length xs) (omega arith) (all_starts M xs vs m), long))
 
-    whole-begun : Starts (Either f w L M) xs (along f xs + r.answer.place)
-    whole-begun =
+    whole_begun : Starts (Either f w L M) xs (along f xs + r.answer.place)
+    whole_begun =
         let p = r.answer.place in
-        let s = starts-there L (drop (along f xs) xs) r some t in
+        let s = starts_there L (drop (along f xs) xs) r some t in
         record {
           more = s.more;
           writes = w (take (along f xs + p) xs ++ s.more) s.writes;
@@ -125,15 +125,15 @@ module _ (f : List Slot) (w : List ℕ → List Write → List Write) (L M : Tex
             front = take (length f) xs;
             rest = take p (drop (along f xs) xs) ++ s.more;
             later = s.writes;
-            follows = whole-follows f xs e;
+            follows = whole_follows f xs e;
             texts = s.whole;
             parts = cut_at (along f xs) (length f) p xs s.more e;
             all = refl;
           });
         }
 
-    whole-longest : (n : ℕ) → n ≤ length xs → Starts (Either f w L M) xs n → n ≤ along f xs + r.answer.place
-    whole-longest n l s = by s.whole
+    whole_longest : (n : ℕ) → n ≤ length xs → Starts (Either f w L M) xs n → n ≤ along f xs + r.answer.place
+    whole_longest n l s = by s.whole
       where
         met : (h : This f w L (take n xs ++ s.more) s.writes) → Meets f xs n s.more h.rest → n ≤ along f xs + r.answer.place
         met h (inside k) = omega arith
@@ -145,13 +145,13 @@ module _ (f : List Slot) (w : List ℕ → List Write → List Write) (L M : Tex
         by (this h) = met h (meets xs n s.more h.rest h.follows h.parts l)
         by (that m) = omega (arith, others n l (record { more = s.more; writes = s.writes; whole = m }))
 
-    pub tells-whole : Tells (Either f w L M) xs (behind (along f xs) r)
-    tells-whole = record {
-      right = whole-right;
-      found = whole-found;
+    pub tells_whole : Tells (Either f w L M) xs (behind (along f xs) r)
+    tells_whole = record {
+      right = whole_right;
+      found = whole_found;
       inside = omega (arith, t.inside, dropped);
-      begun = λ l. whole-begun;
-      longest = whole-longest;
+      begun = λ l. whole_begun;
+      longest = whole_longest;
       refusal = t.refusal;
     }
 
@@ -161,11 +161,11 @@ module _ (f : List Slot) (w : List ℕ → List Write → List Write) (L M : Tex
     abbrev far : ℕ
     far = max (along f xs) r.answer.place
 
-    that-far : 0 < r.answer.place → Starts (Either f w L M) xs r.answer.place
-    that-far l = let s = t.begun l in record { more = s.more; writes = s.writes; whole = that s.whole }
+    that_far : 0 < r.answer.place → Starts (Either f w L M) xs r.answer.place
+    that_far l = let s = t.begun l in record { more = s.more; writes = s.writes; whole = that s.whole }
 
-    this-far : Starts (Either f w L M) xs (along f xs)
-    this-far =
+    this_far : Starts (Either f w L M) xs (along f xs)
+    this_far =
         let c = completed f xs in
         record {
           more = c.rest ++ some.text;
@@ -181,14 +181,14 @@ module _ (f : List Slot) (w : List ℕ → List Write → List Write) (L M : Tex
           });
         }
 
-    left-begun : 0 < far → Starts (Either f w L M) xs far
-    left-begun l = elim (dec_lt r.answer.place (along f xs)) [
-      | yes h ↦ subst (Starts (Either f w L M) xs) (omega arith) this-far
-      | no h ↦ subst (Starts (Either f w L M) xs) (omega arith) (that-far (omega arith))
+    left_begun : 0 < far → Starts (Either f w L M) xs far
+    left_begun l = elim (dec_lt r.answer.place (along f xs)) [
+      | yes h ↦ subst (Starts (Either f w L M) xs) (omega arith) this_far
+      | no h ↦ subst (Starts (Either f w L M) xs) (omega arith) (that_far (omega arith))
     ]
 
-    left-longest : (n : ℕ) → n ≤ length xs → Starts (Either f w L M) xs n → n ≤ far
-    left-longest n l s = by s.whole
+    left_longest : (n : ℕ) → n ≤ length xs → Starts (Either f w L M) xs n → n ≤ far
+    left_longest n l s = by s.whole
       where
         met : (h : This f w L (take n xs ++ s.more) s.writes) → Meets f xs n s.more h.rest → n ≤ far
         met h (inside k) = omega arith
@@ -198,16 +198,16 @@ module _ (f : List Slot) (w : List ℕ → List Write → List Write) (L M : Tex
         by (this h) = met h (meets xs n s.more h.rest h.follows h.parts l)
         by (that m) = omega (arith, t.longest n l (record { more = s.more; writes = s.writes; whole = m }))
 
-    left-found : (vs : List Write) → Either f w L M xs vs → (r.answer.reason ≡ 0) × (r.writes ≡ vs)
-    left-found vs (this h) = absurd (e (rw h.parts (follows-whole h.follows h.rest)))
-    left-found vs (that m) = t.found vs m
+    left_found : (vs : List Write) → Either f w L M xs vs → (r.answer.reason ≡ 0) × (r.writes ≡ vs)
+    left_found vs (this h) = absurd (e (rw h.parts (follows_whole h.follows h.rest)))
+    left_found vs (that m) = t.found vs m
 
-    pub tells-left : Tells (Either f w L M) xs (at_least (along f xs) r)
-    tells-left = record {
-      right = λ k. let p = t.right k in (that p.0, omega (arith, p.1, (along-within f xs).1));
-      found = left-found;
-      inside = omega (arith, t.inside, (along-within f xs).1);
-      begun = left-begun;
-      longest = left-longest;
+    pub tells_left : Tells (Either f w L M) xs (at_least (along f xs) r)
+    tells_left = record {
+      right = λ k. let p = t.right k in (that p.0, omega (arith, p.1, (along_within f xs).1));
+      found = left_found;
+      inside = omega (arith, t.inside, (along_within f xs).1);
+      begun = left_begun;
+      longest = left_longest;
       refusal = t.refusal;
     }

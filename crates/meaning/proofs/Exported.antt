@@ -14,18 +14,18 @@ use Rattle.meaning.specs.Words.{Byte, Word, words_of, bytes_of}
 use Rattle.meaning.specs.Registers.{cells}
 use Rattle.meaning.specs.Grants.{Terms}
 use Rattle.meaning.specs.Batch.{Packet, Cut}
-use Rattle.meaning.specs.State.{Write, apply, applyAll, allWrites}
+use Rattle.meaning.specs.State.{Write, apply, apply_all, all_writes}
 use Rattle.meaning.specs.Positions.{writes_of}
 use Rattle.meaning.specs.Answers.{provided}
-use Rattle.meaning.specs.Reader.{readAnswer}
-use Rattle.meaning.specs.Writer.{writeAnswer}
-use Rattle.meaning.specs.Lister.{listAnswer, listLeaves}
-use Rattle.meaning.specs.Exported.{bufferFine, wordBufferFine, exportedRead, exportedWrite, exportedList, exportedListLeaves}
+use Rattle.meaning.specs.Reader.{read_answer}
+use Rattle.meaning.specs.Writer.{write_answer}
+use Rattle.meaning.specs.Lister.{list_answer, list_leaves}
+use Rattle.meaning.specs.Exported.{buffer_fine, word_buffer_fine, exported_read, exported_write, exported_list, exported_list_leaves}
 use Rattle.meaning.proofs.EachWrite.{each_write}
-use Rattle.meaning.proofs.Writes.{writes-of-cut}
-use Rattle.meaning.proofs.Exactly.{read_told, read-range}
-use Rattle.meaning.proofs.Outputs.{write-told, write-range, list-told, list-range}
-use Rattle.meaning.proofs.Bytes.{words-bytes, length-words, length-bytes, provided-then, provided-first}
+use Rattle.meaning.proofs.Writes.{writes_of_cut}
+use Rattle.meaning.proofs.Exactly.{read_told, read_range}
+use Rattle.meaning.proofs.Outputs.{write_told, write_range, list_told, list_range}
+use Rattle.meaning.proofs.Bytes.{words_bytes, length_words, length_bytes, provided_then, provided_first}
 
 -- ---- words that are words of 32 bits
 
@@ -41,103 +41,103 @@ words_small (a ∷ b ∷ c ∷ d ∷ bs) x =
     let ld = x.1.1.1.0 in
     (omega arith, words_small bs x.1.1.1.1)
 
-set-small : (l : List ℕ) (i v : ℕ) → Word v → All Word l → All Word (set l i v)
-set-small [] i v w a = tt
-set-small (x ∷ l) zero v w a = (w, a.1)
-set-small (x ∷ l) (suc i) v w a = (a.0, set-small l i v w a.1)
+set_small : (l : List ℕ) (i v : ℕ) → Word v → All Word l → All Word (set l i v)
+set_small [] i v w a = tt
+set_small (x ∷ l) zero v w a = (w, a.1)
+set_small (x ∷ l) (suc i) v w a = (a.0, set_small l i v w a.1)
 
-applied-small : (st : List ℕ) (ws : List Write) → All (λ w. Word w.value) ws → All Word st → All Word (applyAll st ws)
-unfolding applyAll apply
-applied-small st [] a s = s
-applied-small st (w ∷ ws) a s =
-    applied-small (apply st w) ws a.1 (set-small (set st w.cell.0 w.value) (cells + w.cell.0) 1 (omega arith) (set-small st w.cell.0 w.value a.0 s))
+applied_small : (st : List ℕ) (ws : List Write) → All (λ w. Word w.value) ws → All Word st → All Word (apply_all st ws)
+unfolding apply_all apply
+applied_small st [] a s = s
+applied_small st (w ∷ ws) a s =
+    applied_small (apply st w) ws a.1 (set_small (set st w.cell.0 w.value) (cells + w.cell.0) 1 (omega arith) (set_small st w.cell.0 w.value a.0 s))
 
-packets-small : (g : Terms) (ps : List (List ℕ)) → All (Packet g) ps → All Word (join ps) → All (λ w. Word w.value) (allWrites ps)
-packets-small g = each_write g (λ (w : Write). Word w.value) Word (λ c v l n s. omega arith) (λ c v l n s. n)
+packets_small : (g : Terms) (ps : List (List ℕ)) → All (Packet g) ps → All Word (join ps) → All (λ w. Word w.value) (all_writes ps)
+packets_small g = each_write g (λ (w : Write). Word w.value) Word (λ c v l n s. omega arith) (λ c v l n s. n)
 
-pub left-small : (batch st : List ℕ) (g : Terms) → Cut g batch → All Word batch → All Word st → All Word (applyAll st (writes_of batch))
-left-small batch st g c b s =
+pub left_small : (batch st : List ℕ) (g : Terms) → Cut g batch → All Word batch → All Word st → All Word (apply_all st (writes_of batch))
+left_small batch st g c b s =
     let w : All Word (join c.packets) = rw c.joined b in
-    rw (writes-of-cut g batch c) (applied-small st (allWrites c.packets) (packets-small g c.packets c.permitted w) s)
+    rw (writes_of_cut g batch c) (applied_small st (all_writes c.packets) (packets_small g c.packets c.permitted w) s)
 
 -- ---- words over the front of a buffer
 
 words_append : (ws bs : List ℕ) → All Word ws → words_of (bytes_of ws ++ bs) ≡ ws ++ words_of bs
 words_append [] bs a = refl
 words_append (w ∷ ws) bs a =
-    ap₂ (λ (x y : List ℕ). x ++ y) (words-bytes (w ∷ []) (a.0, tt)) (words_append ws bs a.1)
+    ap₂ (λ (x y : List ℕ). x ++ y) (words_bytes (w ∷ []) (a.0, tt)) (words_append ws bs a.1)
 
-four-on : (n : ℕ) → suc n * 4 ≡ suc (suc (suc (suc (n * 4))))
-four-on n = omega arith
+four_on : (n : ℕ) → suc n * 4 ≡ suc (suc (suc (suc (n * 4))))
+four_on n = omega arith
 
-words-drop : (n : ℕ) (bs : List ℕ) → words_of (drop (n * 4) bs) ≡ drop n (words_of bs)
-words-drop zero bs = refl
-words-drop (suc n) [] = rw (four-on n)
-words-drop (suc n) (a ∷ []) = rw (four-on n)
-words-drop (suc n) (a ∷ b ∷ []) = rw (four-on n)
-words-drop (suc n) (a ∷ b ∷ c ∷ []) = rw (four-on n)
-words-drop (suc n) (a ∷ b ∷ c ∷ d ∷ bs) = rw (four-on n) (words-drop n bs)
+words_drop : (n : ℕ) (bs : List ℕ) → words_of (drop (n * 4) bs) ≡ drop n (words_of bs)
+words_drop zero bs = refl
+words_drop (suc n) [] = rw (four_on n)
+words_drop (suc n) (a ∷ []) = rw (four_on n)
+words_drop (suc n) (a ∷ b ∷ []) = rw (four_on n)
+words_drop (suc n) (a ∷ b ∷ c ∷ []) = rw (four_on n)
+words_drop (suc n) (a ∷ b ∷ c ∷ d ∷ bs) = rw (four_on n) (words_drop n bs)
 
-pub words-over : (ws bs : List ℕ) → All Word ws → words_of (over (bytes_of ws) bs) ≡ over ws (words_of bs)
-words-over ws bs a =
+pub words_over : (ws bs : List ℕ) → All Word ws → words_of (over (bytes_of ws) bs) ≡ over ws (words_of bs)
+words_over ws bs a =
     words_append ws (drop (length (bytes_of ws)) bs) a
-    ∙ ap (λ (l : List ℕ). ws ++ l) (ap (λ (n : ℕ). words_of (drop n bs)) (length-bytes ws) ∙ words-drop (length ws) bs)
+    ∙ ap (λ (l : List ℕ). ws ++ l) (ap (λ (n : ℕ). words_of (drop n bs)) (length_bytes ws) ∙ words_drop (length ws) bs)
 
 -- ---- the calls
 
 -- 13 comes from no call on words
-pub read-not-13 : (a b c : List ℕ) → ((readAnswer a b c).reason ≢ 13) × ((readAnswer a b c).reason ≤ 14)
-read-not-13 a b c = read-range a b c (read_told a b c)
+pub read_not_13 : (a b c : List ℕ) → ((read_answer a b c).reason ≢ 13) × ((read_answer a b c).reason ≤ 14)
+read_not_13 a b c = read_range a b c (read_told a b c)
 
-pub write-below-13 : (a b : List ℕ) (room : ℕ) → (writeAnswer a b room).reason < 13
-write-below-13 a b room = omega (arith, write-range a b room (write-told a b room))
+pub write_below_13 : (a b : List ℕ) (room : ℕ) → (write_answer a b room).reason < 13
+write_below_13 a b room = omega (arith, write_range a b room (write_told a b room))
 
-pub list-below-13 : (a : List ℕ) (room : ℕ) → (listAnswer a room).reason < 13
-list-below-13 a room = omega (arith, list-range a room (list-told a room))
+pub list_below_13 : (a : List ℕ) (room : ℕ) → (list_answer a room).reason < 13
+list_below_13 a room = omega (arith, list_range a room (list_told a room))
 
-pub provided-range : (b : Bool) (a : Answer) → a.reason < 256 → (provided b 13 a).reason < 256
-provided-range true a l = omega arith
-provided-range false a l = omega arith
+pub provided_range : (b : Bool) (a : Answer) → a.reason < 256 → (provided b 13 a).reason < 256
+provided_range true a l = omega arith
+provided_range false a l = omega arith
 
-pub read-call-range : (a b c : List ℕ) → (exportedRead a b c).reason < 256
-unfolding exportedRead
-read-call-range a b c = provided-range (every wordBufferFine (a ∷ b ∷ c ∷ [])) _ (omega (arith, (read-not-13 (words_of a) (words_of b) (words_of c)).1))
+pub read_call_range : (a b c : List ℕ) → (exported_read a b c).reason < 256
+unfolding exported_read
+read_call_range a b c = provided_range (every word_buffer_fine (a ∷ b ∷ c ∷ [])) _ (omega (arith, (read_not_13 (words_of a) (words_of b) (words_of c)).1))
 
-pub write-call-range : (a b c : List ℕ) → (exportedWrite a b c).reason < 256
-unfolding exportedWrite
-write-call-range a b c = provided-range (every wordBufferFine (a ∷ b ∷ c ∷ [])) _ (omega (arith, write-below-13 (words_of a) (words_of b) (length c / 4)))
+pub write_call_range : (a b c : List ℕ) → (exported_write a b c).reason < 256
+unfolding exported_write
+write_call_range a b c = provided_range (every word_buffer_fine (a ∷ b ∷ c ∷ [])) _ (omega (arith, write_below_13 (words_of a) (words_of b) (length c / 4)))
 
-pub list-call-range : (a c : List ℕ) → (exportedList a c).reason < 256
-unfolding exportedList
-list-call-range a c = provided-range (wordBufferFine a && bufferFine c) _ (omega (arith, list-below-13 (words_of a) (length c)))
+pub list_call_range : (a c : List ℕ) → (exported_list a c).reason < 256
+unfolding exported_list
+list_call_range a c = provided_range (word_buffer_fine a && buffer_fine c) _ (omega (arith, list_below_13 (words_of a) (length c)))
 
 -- 13 is given exactly of buffers that are not fine
-pub read-13-exactly : (a b c : List ℕ) → ((exportedRead a b c).reason ≡ 13) ↔ (¬ T (every wordBufferFine (a ∷ b ∷ c ∷ [])))
-unfolding exportedRead
-read-13-exactly a b c = provided-first (every wordBufferFine (a ∷ b ∷ c ∷ [])) 13 _ (read-not-13 (words_of a) (words_of b) (words_of c)).0
+pub read_13_exactly : (a b c : List ℕ) → ((exported_read a b c).reason ≡ 13) ↔ (¬ T (every word_buffer_fine (a ∷ b ∷ c ∷ [])))
+unfolding exported_read
+read_13_exactly a b c = provided_first (every word_buffer_fine (a ∷ b ∷ c ∷ [])) 13 _ (read_not_13 (words_of a) (words_of b) (words_of c)).0
 
-pub write-13-exactly : (a b c : List ℕ) → ((exportedWrite a b c).reason ≡ 13) ↔ (¬ T (every wordBufferFine (a ∷ b ∷ c ∷ [])))
-unfolding exportedWrite
-write-13-exactly a b c = provided-first (every wordBufferFine (a ∷ b ∷ c ∷ [])) 13 _ (λ e. omega (arith, write-below-13 (words_of a) (words_of b) (length c / 4)))
+pub write_13_exactly : (a b c : List ℕ) → ((exported_write a b c).reason ≡ 13) ↔ (¬ T (every word_buffer_fine (a ∷ b ∷ c ∷ [])))
+unfolding exported_write
+write_13_exactly a b c = provided_first (every word_buffer_fine (a ∷ b ∷ c ∷ [])) 13 _ (λ e. omega (arith, write_below_13 (words_of a) (words_of b) (length c / 4)))
 
-pub list-13-exactly : (a c : List ℕ) → ((exportedList a c).reason ≡ 13) ↔ (¬ T (wordBufferFine a && bufferFine c))
-unfolding exportedList
-list-13-exactly a c = provided-first (wordBufferFine a && bufferFine c) 13 _ (λ e. omega (arith, list-below-13 (words_of a) (length c)))
+pub list_13_exactly : (a c : List ℕ) → ((exported_list a c).reason ≡ 13) ↔ (¬ T (word_buffer_fine a && buffer_fine c))
+unfolding exported_list
+list_13_exactly a c = provided_first (word_buffer_fine a && buffer_fine c) 13 _ (λ e. omega (arith, list_below_13 (words_of a) (length c)))
 
-module _ (a b c : List ℕ) (fine : T (every wordBufferFine (a ∷ b ∷ c ∷ []))) where
-  pub read-call : exportedRead a b c ≡ readAnswer (words_of a) (words_of b) (words_of c)
-  unfolding exportedRead
-  read-call = provided-then (every wordBufferFine (a ∷ b ∷ c ∷ [])) 13 _ fine
+module _ (a b c : List ℕ) (fine : T (every word_buffer_fine (a ∷ b ∷ c ∷ []))) where
+  pub read_call : exported_read a b c ≡ read_answer (words_of a) (words_of b) (words_of c)
+  unfolding exported_read
+  read_call = provided_then (every word_buffer_fine (a ∷ b ∷ c ∷ [])) 13 _ fine
 
-  pub write-call : exportedWrite a b c ≡ writeAnswer (words_of a) (words_of b) (length (words_of c))
-  unfolding exportedWrite
-  write-call = rw (length-words c) (provided-then (every wordBufferFine (a ∷ b ∷ c ∷ [])) 13 _ fine)
+  pub write_call : exported_write a b c ≡ write_answer (words_of a) (words_of b) (length (words_of c))
+  unfolding exported_write
+  write_call = rw (length_words c) (provided_then (every word_buffer_fine (a ∷ b ∷ c ∷ [])) 13 _ fine)
 
-module _ (a c : List ℕ) (fine : T (wordBufferFine a && bufferFine c)) where
-  pub list-call : exportedList a c ≡ listAnswer (words_of a) (length c)
-  unfolding exportedList
-  list-call = provided-then (wordBufferFine a && bufferFine c) 13 _ fine
+module _ (a c : List ℕ) (fine : T (word_buffer_fine a && buffer_fine c)) where
+  pub list_call : exported_list a c ≡ list_answer (words_of a) (length c)
+  unfolding exported_list
+  list_call = provided_then (word_buffer_fine a && buffer_fine c) 13 _ fine
 
-  pub list-call-leaves : exportedListLeaves a c ≡ listLeaves (words_of a) c
-  unfolding exportedListLeaves listLeaves
-  list-call-leaves = rw list-call
+  pub list_call_leaves : exported_list_leaves a c ≡ list_leaves (words_of a) c
+  unfolding exported_list_leaves list_leaves
+  list_call_leaves = rw list_call

@@ -10,33 +10,33 @@ use lib.Bits.{bit_and}
 use mir.Facts.{eqb_yes, yes_eqb}
 use Rattle.meaning.specs.declared.Found.{Found}
 use Rattle.meaning.specs.declared.Found.TheVariants.{At, Missing}
-use Rattle.meaning.specs.Registers.{Register, isFound, registerAt}
+use Rattle.meaning.specs.Registers.{Register, is_found, register_at}
 use Rattle.meaning.specs.Grants.{Terms}
 use Rattle.meaning.specs.Batch.{reaches, Fits, Stands}
-use Rattle.meaning.specs.Reader.{unless, valueReason, foundReason}
+use Rattle.meaning.specs.Reader.{unless, value_reason, found_reason}
 
 -- each test of a reader's word: 0 exactly if the test is true and what comes after it is 0
-pub unless-fine : (b : Bool) (r : ℕ) {v : ℕ} → 0 < r → (unless b r v ≡ 0) ↔ (T b × (v ≡ 0))
+pub unless_fine : (b : Bool) (r : ℕ) {v : ℕ} → 0 < r → (unless b r v ≡ 0) ↔ (T b × (v ≡ 0))
 unfolding unless
-unless-fine true r l = (λ e. (tt, e), λ p. p.1)
-unless-fine false r l = (λ e. absurd (omega arith), λ p. absurd p.0)
+unless_fine true r l = (λ e. (tt, e), λ p. p.1)
+unless_fine false r l = (λ e. absurd (omega arith), λ p. absurd p.0)
 
-pub fits-fine : (g : Terms) (r : Register) (v : ℕ) → Fits g r v ↔ (valueReason g r v ≡ 0)
-unfolding valueReason
-fits-fine g r v =
-    let clear = unless-fine (eqb (bit_and v r.clear) 0) 7 (lit< tt) in
-    let value = unless-fine (r.values v) 8 (lit< tt) in
-    let grant = unless-fine (reaches g (r.holds v)) 9 (lit< tt) in (
+pub fits_fine : (g : Terms) (r : Register) (v : ℕ) → Fits g r v ↔ (value_reason g r v ≡ 0)
+unfolding value_reason
+fits_fine g r v =
+    let clear = unless_fine (eqb (bit_and v r.clear) 0) 7 (lit< tt) in
+    let value = unless_fine (r.values v) 8 (lit< tt) in
+    let grant = unless_fine (reaches g (r.holds v)) 9 (lit< tt) in (
       λ f. clear.1 (yes_eqb f.clear, value.1 (f.value, grant.1 (f.granted, refl))),
       λ e. let p = clear.0 e in let q = value.0 p.1 in
           record { clear = eqb_yes p.0; value = q.0; granted = (grant.0 q.1).0 },
     )
 
-pub stands-fine : (g : Terms) (none : ℕ) (f : Found) (v : ℕ) → 0 < none → Stands g f v ↔ (foundReason g none f v ≡ 0)
-stands-fine g none (At c) v l = fits-fine g (registerAt c) v
-stands-fine g none Missing v l = (λ x. absurd x, λ e. absurd (omega arith))
+pub stands_fine : (g : Terms) (none : ℕ) (f : Found) (v : ℕ) → 0 < none → Stands g f v ↔ (found_reason g none f v ≡ 0)
+stands_fine g none (At c) v l = fits_fine g (register_at c) v
+stands_fine g none Missing v l = (λ x. absurd x, λ e. absurd (omega arith))
 
 -- what stands somewhere has a register
-pub stands-found : (g : Terms) (f : Found) (v : ℕ) → Stands g f v → T (isFound f)
-stands-found g (At c) v x = tt
-stands-found g Missing v x = absurd x
+pub stands_found : (g : Terms) (f : Found) (v : ℕ) → Stands g f v → T (is_found f)
+stands_found g (At c) v x = tt
+stands_found g Missing v x = absurd x

@@ -6,69 +6,69 @@ use Rattle.meaning.specs.declared.Answer.{Answer}
 -- ---- why a batch comes back: the table's numbers, in its order; Reasons says when each is given
 
 -- Y1 "the state is not 202 words, or is not well-formed"
-abbrev pub badState : ℕ
-badState = 1
+abbrev pub bad_state : ℕ
+bad_state = 1
 
 -- Y2 "the grant list does not keep its rules"
-abbrev pub badGrants : ℕ
-badGrants = 2
+abbrev pub bad_grants : ℕ
+bad_grants = 2
 
 -- Y3 "the offset of a header is neither 043Ch nor a video register's"
-abbrev pub badOffset : ℕ
-badOffset = 3
+abbrev pub bad_offset : ℕ
+bad_offset = 3
 
 -- Y4 "the count of a header is out of its range, or its run does not stay within the video registers"
-abbrev pub badCount : ℕ
-badCount = 4
+abbrev pub bad_count : ℕ
+bad_count = 4
 
 -- Y5 "a setting is none of those allowed"
-abbrev pub badSetting : ℕ
-badSetting = 5
+abbrev pub bad_setting : ℕ
+bad_setting = 5
 
 -- Y6 "a parameter's name is no register's of the table"
-abbrev pub noRegister : ℕ
-noRegister = 6
+abbrev pub no_register : ℕ
+no_register = 6
 
 -- Y7 "a bit that must be clear is set"
-abbrev pub bitSet : ℕ
-bitSet = 7
+abbrev pub bit_set : ℕ
+bit_set = 7
 
 -- Y8 "a value does not keep its value rule"
-abbrev pub badValue : ℕ
-badValue = 8
+abbrev pub bad_value : ℕ
+bad_value = 8
 
 -- Y9 "an address is not granted"
-abbrev pub notGranted : ℕ
-notGranted = 9
+abbrev pub not_granted : ℕ
+not_granted = 9
 
 -- Y10 "the batch is over before a packet is"
-abbrev pub endsInside : ℕ
-endsInside = 10
+abbrev pub ends_inside : ℕ
+ends_inside = 10
 
 -- Y11 "writer and lister: the output is shorter than they need"
-abbrev pub noRoom : ℕ
-noRoom = 11
+abbrev pub no_room : ℕ
+no_room = 11
 
 -- Y12 "size and writer: a marked cell has a value that 7, 8 or 9 would refuse, or a 3D value not below 2^24", Y12 "or it is cell 1 and the pair is not
 -- fine"
-abbrev pub notWritable : ℕ
-notWritable = 12
+abbrev pub not_writable : ℕ
+not_writable = 12
 
 -- Y13 "C calls and programs alone: a buffer has more than 65,536 bytes, or a buffer of words has a length that is no multiple of 4"
-abbrev pub badBuffer : ℕ
-badBuffer = 13
+abbrev pub bad_buffer : ℕ
+bad_buffer = 13
 
 -- Y14 "the batch does not keep the pair"
-abbrev pub badPair : ℕ
-badPair = 14
+abbrev pub bad_pair : ℕ
+bad_pair = 14
 
 -- Y19 "listing reader: the text is no listing"
-abbrev pub notListing : ℕ
-notListing = 19
+abbrev pub not_listing : ℕ
+not_listing = 19
 
 -- Y23 "engine: a word is fed after 2^32 − 1 that were taken"
-abbrev pub engineFull : ℕ
-engineFull = 23
+abbrev pub engine_full : ℕ
+engine_full = 23
 
 -- Y0 "all is done": A1 "Reason 0 is success, and any other is a refusal."
 abbrev pub success : ℕ

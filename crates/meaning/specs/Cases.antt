@@ -8,8 +8,8 @@ use Rattle.meaning.specs.Words.{data24}
 use Rattle.meaning.specs.Registers.{cells, Format, formats}
 use Rattle.meaning.specs.State.{empty}
 use Rattle.meaning.specs.Answers.{answer}
-use Rattle.meaning.specs.Reader.{readAnswer, readLeaves}
-use Rattle.meaning.specs.Writer.{written, mostWritten, writeAnswer}
+use Rattle.meaning.specs.Reader.{read_answer, read_leaves}
+use Rattle.meaning.specs.Writer.{written, most_written, write_answer}
 
 -- a batch and its grants, as words, and what the reader answers and leaves of the empty state
 pub record Case : Type 0 where
@@ -35,12 +35,12 @@ abbrev pub refused : List ℕ → ℕ → ℕ → ℕ → Case
 refused grants s w r = record { batch = 0x0002043C ∷ s ∷ w ∷ []; grants = grants; gives = answer r 2; leaves = empty }
 
 -- K1 "role 1, start 00100000h, length 00080000h": that grant with a reach, in a memory
-abbrev pub grantIn : ℕ → ℕ → List ℕ
-grantIn m reach = 1 ∷ 0x00100000 ∷ 0x00080000 ∷ reach ∷ m ∷ []
+abbrev pub grant_in : ℕ → ℕ → List ℕ
+grant_in m reach = 1 ∷ 0x00100000 ∷ 0x00080000 ∷ reach ∷ m ∷ []
 
 -- the grant of K1 and K2, with its reach
 abbrev pub grant : ℕ → List ℕ
-grant reach = grantIn 0 reach
+grant reach = grant_in 0 reach
 
 -- the setting of K1 to K8
 abbrev pub type01 : ℕ
@@ -104,15 +104,15 @@ slips =
 
 -- what a case says of the definitions, from a state
 abbrev pub HoldsFrom : List ℕ → Case → Type 0
-HoldsFrom st c = (readAnswer c.batch c.grants st ≡ c.gives) × (readLeaves c.batch c.grants st ≡ c.leaves)
+HoldsFrom st c = (read_answer c.batch c.grants st ≡ c.gives) × (read_leaves c.batch c.grants st ≡ c.leaves)
 
 -- and from the empty one
 abbrev pub Holds : Case → Type 0
 Holds c = HoldsFrom empty c
 
 -- the shrinking filters, K24 to K29: words of a sample's filters that are refused,
-unfoldable pub filtersRefused : List ℕ
-filtersRefused =
+unfoldable pub filters_refused : List ℕ
+filters_refused =
     -- K24 "31000800, 31000810, 31000830 | 8 at 2 | 12 at 46"
     0x31000800
     ∷ 0x31000810
@@ -127,8 +127,8 @@ filtersRefused =
     ∷ []
 
 -- and words that are accepted
-unfoldable pub filtersAccepted : List ℕ
-filtersAccepted =
+unfoldable pub filters_accepted : List ℕ
+filters_accepted =
     -- K26 "31000820 | accepted, cell 46 | makes the batch"
     0x31000820
     -- K27 "31000000, 31000400, 31000C00, 31000010, 31000030 | accepted, cell 46 | makes the batch"
@@ -142,19 +142,19 @@ filtersAccepted =
     ∷ []
 
 -- what the writer is given: cell 46 alone is marked, and holds the word's data
-abbrev pub holdingFilters : ℕ → List ℕ
-holdingFilters w = holding 46 (data24 w)
+abbrev pub holding_filters : ℕ → List ℕ
+holding_filters w = holding 46 (data24 w)
 
 -- the reader refuses the word, and the writer that state
 abbrev pub BothRefuse : ℕ → Type 0
-BothRefuse w = Holds (refused [] sample3 w 8) × (writeAnswer (holdingFilters w) [] mostWritten ≡ answer 12 46)
+BothRefuse w = Holds (refused [] sample3 w 8) × (write_answer (holding_filters w) [] most_written ≡ answer 12 46)
 
 -- the reader accepts the word and leaves that state, and of that state the writer makes the same batch
 abbrev pub BothTake : ℕ → Type 0
 BothTake w =
     Holds (accepted [] sample3 w 46 (data24 w))
-    × (writeAnswer (holdingFilters w) [] mostWritten ≡ answer 0 3)
-    × (written (holdingFilters w) ≡ 0x0002043C ∷ sample3 ∷ w ∷ [])
+    × (write_answer (holding_filters w) [] most_written ≡ answer 0 3)
+    × (written (holding_filters w) ≡ 0x0002043C ∷ sample3 ∷ w ∷ [])
 
 -- a case of the pair: the state that it is read from, and the case
 pub record PairCase : Type 0 where
@@ -174,8 +174,8 @@ abbrev pub word51 : ℕ → ℕ
 word51 m = 0x51000000 + m * 0x100000
 
 -- a state that is read from, grants, words of type 01, and the answer: the state that is left
-abbrev pub pairCase : List ℕ → List ℕ → List ℕ → Answer → List ℕ → PairCase
-pairCase st grants ws a left = record { entry = st; case = record { batch = ws; grants = grants; gives = a; leaves = left } }
+abbrev pub pair_case : List ℕ → List ℕ → List ℕ → Answer → List ℕ → PairCase
+pair_case st grants ws a left = record { entry = st; case = record { batch = ws; grants = grants; gives = a; leaves = left } }
 
 -- one word
 abbrev pub single : ℕ → List ℕ
@@ -186,36 +186,36 @@ abbrev pub addressed : List ℕ
 addressed = holding 1 0x001000
 
 -- and cell 2 with a memory
-abbrev pub addressedIn : ℕ → List ℕ
-addressedIn m = with addressed 2 (m * 0x100000)
+abbrev pub addressed_in : ℕ → List ℕ
+addressed_in m = with addressed 2 (m * 0x100000)
 
 -- K30 to K41, a line each: state, grants, words, answer
 unfoldable pub pairs : List PairCase
 pairs =
     -- K30 "empty | 1 | 50001000, 51100000 | accepted"
-    pairCase empty (grantIn 1 1) (0x0003043C ∷ type01 ∷ word50 ∷ word51 1 ∷ []) (answer 0 4) (addressedIn 1)
+    pair_case empty (grant_in 1 1) (0x0003043C ∷ type01 ∷ word50 ∷ word51 1 ∷ []) (answer 0 4) (addressed_in 1)
     -- K31 "empty | 0 | 50001000, 51100000 | 14"
-    ∷ pairCase empty (grantIn 0 1) (0x0003043C ∷ type01 ∷ word50 ∷ word51 1 ∷ []) (answer 14 4) empty
+    ∷ pair_case empty (grant_in 0 1) (0x0003043C ∷ type01 ∷ word50 ∷ word51 1 ∷ []) (answer 14 4) empty
     -- K32 "empty | 1 | 50001000 | 14"
-    ∷ pairCase empty (grantIn 1 1) (single word50) (answer 14 3) empty
+    ∷ pair_case empty (grant_in 1 1) (single word50) (answer 14 3) empty
     -- K33 "empty | none | 51200000 | 8 at 2"
-    ∷ pairCase empty [] (single (word51 2)) (answer 8 2) empty
+    ∷ pair_case empty [] (single (word51 2)) (answer 8 2) empty
     -- K34 "empty | none | 51100000 | accepted"
-    ∷ pairCase empty [] (single (word51 1)) (answer 0 3) (holding 2 0x100000)
+    ∷ pair_case empty [] (single (word51 1)) (answer 0 3) (holding 2 0x100000)
     -- K35 "cell 1 holds 001000h | 0 | 51100000 | 14"
-    ∷ pairCase addressed (grantIn 0 1) (single (word51 1)) (answer 14 3) addressed
+    ∷ pair_case addressed (grant_in 0 1) (single (word51 1)) (answer 14 3) addressed
     -- K36 "cell 1 holds 001000h, cell 2 holds 100000h | 0 | 50001000 | 14"
-    ∷ pairCase (addressedIn 1) (grantIn 0 1) (single word50) (answer 14 3) (addressedIn 1)
+    ∷ pair_case (addressed_in 1) (grant_in 0 1) (single word50) (answer 14 3) (addressed_in 1)
     -- K37 "cell 1 holds 001000h, cell 2 holds 100000h | 1 | 50001000 | accepted"
-    ∷ pairCase (addressedIn 1) (grantIn 1 1) (single word50) (answer 0 3) (addressedIn 1)
+    ∷ pair_case (addressed_in 1) (grant_in 1 1) (single word50) (answer 0 3) (addressed_in 1)
     -- K38 "cell 2 holds 200000h | 0 | 50001000 | 14"
-    ∷ pairCase (holding 2 0x200000) (grantIn 0 1) (single word50) (answer 14 3) (holding 2 0x200000)
+    ∷ pair_case (holding 2 0x200000) (grant_in 0 1) (single word50) (answer 14 3) (holding 2 0x200000)
     -- K39 "cell 1 holds 1001000h | 0 | 51000000 | 14"
-    ∷ pairCase (holding 1 0x1001000) (grantIn 0 1) (single (word51 0)) (answer 14 3) (holding 1 0x1001000)
+    ∷ pair_case (holding 1 0x1001000) (grant_in 0 1) (single (word51 0)) (answer 14 3) (holding 1 0x1001000)
     -- K40 "cell 1 holds 001000h | none | 3F400400 | accepted"
-    ∷ pairCase addressed [] (single 0x3F400400) (answer 0 3) (with addressed 0 0x400400)
+    ∷ pair_case addressed [] (single 0x3F400400) (answer 0 3) (with addressed 0 0x400400)
     -- K41 "empty | 1 | 50001000, and a header of 3 | 10"
-    ∷ pairCase empty (grantIn 1 1) (0x0003043C ∷ type01 ∷ word50 ∷ []) (answer 10 3) empty
+    ∷ pair_case empty (grant_in 1 1) (0x0003043C ∷ type01 ∷ word50 ∷ []) (answer 10 3) empty
     ∷ []
 
 -- both sides of each rule of the grant list, G2 to G4 and G9: lists that keep the rules
@@ -248,9 +248,9 @@ unfoldable pub full : List ℕ
 full = replicate cells 0 ++ replicate cells 1
 
 -- the permitted format bytes: each five-bit code with its three-bit codes
-abbrev pub bytesIn : Format → List ℕ
-bytesIn f = map (λ (x : ℕ). f.code * 8 + x) f.with
+abbrev pub bytes_in : Format → List ℕ
+bytes_in f = map (λ (x : ℕ). f.code * 8 + x) f.with
 
 -- F9 "39 are"
-unfoldable pub formatBytes : List ℕ
-formatBytes = join (map bytesIn formats)
+unfoldable pub format_bytes : List ℕ
+format_bytes = join (map bytes_in formats)

@@ -6,10 +6,10 @@ use mathlib.Core.List.{List, [], ◌∷◌, Memᴰ}
 use Rattle.laws.specs.Lists.{All}
 use Rattle.meaning.specs.declared.Memory.{Memory}
 use Rattle.meaning.specs.declared.Memory.TheVariants.{Either, Only}
-use Rattle.meaning.specs.Registers.{Content, nothing, address, registerAt}
+use Rattle.meaning.specs.Registers.{Content, nothing, address, register_at}
 use Rattle.meaning.specs.Grants.{Grant}
-use Rattle.meaning.specs.State.{markAt, Write}
-use Rattle.meaning.specs.Pair.{targetCell, memoryOf, target_of, wrotePair}
+use Rattle.meaning.specs.State.{mark_at, Write}
+use Rattle.meaning.specs.Pair.{target_cell, memory_of, target_of, wrote_pair}
 
 -- G10 "in that memory": said of one grant, as a fact
 abbrev pub LiesIn : Memory → Grant → Type 0
@@ -19,7 +19,7 @@ LiesIn (Only m) x = x.memory ≡ m
 -- G5 "grant of that role has start ≤ a and a + reach ≤ start + length", and G10 "is in that memory": said of one grant, as facts
 pub record Admits (x : Grant) (m : Memory) (role a : ℕ) : Type 0 where
   pub lies : LiesIn m x
-  pub role-is : x.role ≡ role
+  pub role_is : x.role ≡ role
   pub from : x.start ≤ a
   pub to : a + x.reach ≤ x.start + x.length
 
@@ -70,24 +70,24 @@ Safe ours theirs m role a = Inside ours m role a × Harmless ours theirs m role 
 -- ---- addresses that are written
 
 -- the memory of the address that a word writes: a scaler's is in memory 0, by G9, and the target's in either, until the pair is judged
-abbrev pub writtenIn : ℕ → Memory
-writtenIn role = cond (eqb role 1) Either (Only 0)
+abbrev pub written_in : ℕ → Memory
+written_in role = cond (eqb role 1) Either (Only 0)
 
 -- a property of the address that a write stores, where it stores one
 abbrev pub OfAddress : (Memory → ℕ → ℕ → Type 0) → Content → Type 0
 OfAddress P nothing = Unit {0}
-OfAddress P (address role a) = P (writtenIn role) role a
+OfAddress P (address role a) = P (written_in role) role a
 
 -- of a write, by the register of its cell
 abbrev pub Stores : (Memory → ℕ → ℕ → Type 0) → Write → Type 0
-Stores P w = OfAddress P ((registerAt w.cell).holds w.value)
+Stores P w = OfAddress P ((register_at w.cell).holds w.value)
 
 -- the same property of the target's address in a state, where it has one, in the memory that cell 2 names
 abbrev pub OfTarget : (Memory → ℕ → ℕ → Type 0) → List ℕ → Type 0
-OfTarget P st = 0 < markAt st targetCell → P (Only (memoryOf st)) 1 (target_of st)
+OfTarget P st = 0 < mark_at st target_cell → P (Only (memory_of st)) 1 (target_of st)
 
 -- what is promised of an accepted batch's writes, and of the state that they make: of each address that is written; and, where cell 1 or
 -- 2 is written, of the target's in its memory
 pub record EachKept (P : Memory → ℕ → ℕ → Type 0) (ws : List Write) (left : List ℕ) : Type 0 where
   pub each : All (Stores P) ws
-  pub target : T (wrotePair ws) → OfTarget P left
+  pub target : T (wrote_pair ws) → OfTarget P left

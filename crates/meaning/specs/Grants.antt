@@ -18,43 +18,43 @@ pub record Grant : Type 0 where
   pub memory : ℕ
 
 -- G1 "five words"
-abbrev pub grantWords : ℕ
-grantWords = 5
+abbrev pub grant_words : ℕ
+grant_words = 5
 
 -- the whole grants of a list of words
-abbrev pub grantsOf : List ℕ → List Grant
-grantsOf [] = []
-grantsOf (r ∷ []) = []
-grantsOf (r ∷ s ∷ []) = []
-grantsOf (r ∷ s ∷ l ∷ []) = []
-grantsOf (r ∷ s ∷ l ∷ h ∷ []) = []
-grantsOf (r ∷ s ∷ l ∷ h ∷ m ∷ rest) = record { role = r; start = s; length = l; reach = h; memory = m } ∷ grantsOf rest
+abbrev pub grants_of : List ℕ → List Grant
+grants_of [] = []
+grants_of (r ∷ []) = []
+grants_of (r ∷ s ∷ []) = []
+grants_of (r ∷ s ∷ l ∷ []) = []
+grants_of (r ∷ s ∷ l ∷ h ∷ []) = []
+grants_of (r ∷ s ∷ l ∷ h ∷ m ∷ rest) = record { role = r; start = s; length = l; reach = h; memory = m } ∷ grants_of rest
 
 -- G9 "Memory is 0 or 1, and for roles 2 and 3 it is 0."
-unfoldable pub memoryFine : Grant → Bool
-memoryFine g = leb g.memory 1 && (eqb g.role 1 || eqb g.memory 0)
+unfoldable pub memory_fine : Grant → Bool
+memory_fine g = leb g.memory 1 && (eqb g.role 1 || eqb g.memory 0)
 
 -- G2 "Role 1 is the target, role 2 the first scaler, role 3 the second scaler; there is no other."
 -- G4 "Start + length is not above 2^32, and reach is not 0."
-unfoldable pub grantFine : Grant → Bool
-grantFine g = within 1 3 g.role && (leb (g.start + g.length) (2 ^ 32) && (leb 1 g.reach && memoryFine g))
+unfoldable pub grant_fine : Grant → Bool
+grant_fine g = within 1 3 g.role && (leb (g.start + g.length) (2 ^ 32) && (leb 1 g.reach && memory_fine g))
 
 -- G3 "0 to 64 grants"
-abbrev pub mostGrants : ℕ
-mostGrants = 64
+abbrev pub most_grants : ℕ
+most_grants = 64
 
 -- the rules of the list: G3 "A grant list is 0 to 64 grants and nothing besides. They may overlap", and each is fine
-unfoldable pub grantsFine : List ℕ → Bool
-grantsFine gs = eqb (length gs % grantWords) 0 && (leb (length gs / grantWords) mostGrants && every grantFine (grantsOf gs))
+unfoldable pub grants_fine : List ℕ → Bool
+grants_fine gs = eqb (length gs % grant_words) 0 && (leb (length gs / grant_words) most_grants && every grant_fine (grants_of gs))
 
 -- G10 "in that memory": of one grant, and of an address that is asked about in whichever memory, or in one
-abbrev pub liesIn : Memory → Grant → Bool
-liesIn Either g = true
-liesIn (Only m) g = eqb g.memory m
+abbrev pub lies_in : Memory → Grant → Bool
+lies_in Either g = true
+lies_in (Only m) g = eqb g.memory m
 
 -- G5 "grant of that role has start ≤ a and a + reach ≤ start + length", and it is in the memory
 unfoldable pub covers : Memory → ℕ → ℕ → Grant → Bool
-covers m role a g = liesIn m g && (eqb g.role role && (leb g.start a && leb (a + g.reach) (g.start + g.length)))
+covers m role a g = lies_in m g && (eqb g.role role && (leb g.start a && leb (a + g.reach) (g.start + g.length)))
 
 -- G5 "A role is granted an address a if some grant of that role has .. and only then.", and G10 "It is granted a in a memory if such a
 -- grant is in that memory"
@@ -63,24 +63,24 @@ granted gs m role a = some (covers m role a) gs
 
 -- the first of these grants that admits the address, where the list goes on from number n: G7 "Grants are numbered from 0, as the list has
 -- them"
-unfoldable pub whichFrom : ℕ → List Grant → Memory → ℕ → ℕ → Which
-whichFrom n [] m role a = by.Nobody
-whichFrom n (g ∷ gs) m role a = let more = whichFrom (suc n) gs m role a in cond (covers m role a g) (by.Grant n) more
+unfoldable pub which_from : ℕ → List Grant → Memory → ℕ → ℕ → Which
+which_from n [] m role a = by.Nobody
+which_from n (g ∷ gs) m role a = let more = which_from (suc n) gs m role a in cond (covers m role a g) (by.Grant n) more
 
 -- G8 "The grant that admits an address of a role is the lowest-numbered one by which the role is granted it; nobody admits it exactly if
 -- there is none.", and in a memory likewise
 abbrev pub which : List Grant → Memory → ℕ → ℕ → Which
-which gs m role a = whichFrom 0 gs m role a
+which gs m role a = which_from 0 gs m role a
 
 -- some grant does
-abbrev pub isGrant : Which → Bool
-isGrant (by.Grant n) = true
-isGrant by.Nobody = false
+abbrev pub is_grant : Which → Bool
+is_grant (by.Grant n) = true
+is_grant by.Nobody = false
 
 -- what a batch is judged by
 pub record Terms : Type 0 where
   pub grants : List Grant
 
 -- as a list of words gives it
-abbrev pub termsOf : List ℕ → Terms
-termsOf gs = record { grants = grantsOf gs }
+abbrev pub terms_of : List ℕ → Terms
+terms_of gs = record { grants = grants_of gs }

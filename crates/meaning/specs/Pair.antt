@@ -10,46 +10,46 @@ use Rattle.meaning.specs.Words.{Word, bits}
 use Rattle.meaning.specs.Registers.{cell}
 use Rattle.meaning.specs.Grants.{Terms, granted}
 use Rattle.meaning.specs.Batch.{Cut}
-use Rattle.meaning.specs.State.{value_at, markAt, empty, Write, applyAll, allWrites}
+use Rattle.meaning.specs.State.{value_at, mark_at, empty, Write, apply_all, all_writes}
 
 -- ---- the pair
 
 -- S7 "cell 1, the target's address"
-abbrev pub targetCell : Cell
-targetCell = cell 1
+abbrev pub target_cell : Cell
+target_cell = cell 1
 
 -- S7 "cell 2, its location"
-abbrev pub locationCell : Cell
-locationCell = cell 2
+abbrev pub location_cell : Cell
+location_cell = cell 2
 
 -- S8 "bits 21:20 of its value, and 0 if cell 2 is not marked": by its mark and its value
-abbrev pub memoryNamed : ℕ → ℕ → ℕ
-memoryNamed mark value = cond (ltb 0 mark) (bits 21 20 value) 0
+abbrev pub memory_named : ℕ → ℕ → ℕ
+memory_named mark value = cond (ltb 0 mark) (bits 21 20 value) 0
 
 -- S8 "The memory that cell 2 names". S8 "2 and 3 name no memory": by G9 no grant is there
-unfoldable pub memoryOf : List ℕ → ℕ
-memoryOf st = memoryNamed (markAt st locationCell) (value_at st locationCell)
+unfoldable pub memory_of : List ℕ → ℕ
+memory_of st = memory_named (mark_at st location_cell) (value_at st location_cell)
 
 -- where the address in a cell is looked at: Q5 "The address in cell 1 is looked at in the memory that cell 2 names, and any other in
 -- whichever memory."
-abbrev pub lookedAt : List ℕ → Cell → Memory
-lookedAt st c = cond (eqb c.0 targetCell.0) (Only (memoryOf st)) Either
+abbrev pub looked_at : List ℕ → Cell → Memory
+looked_at st c = cond (eqb c.0 target_cell.0) (Only (memory_of st)) Either
 
 -- R2 "the data × 256 is an address of role 1": the target's address in a state, as a whole number
 abbrev pub target_of : List ℕ → ℕ
-target_of st = value_at st targetCell * 256
+target_of st = value_at st target_cell * 256
 
 -- S9 "The pair is fine if cell 1 is not marked, or if its address is granted to role 1 in the memory that cell 2 names."
-unfoldable pub pairFine : Terms → List ℕ → Bool
-pairFine g st = implies (ltb 0 (markAt st targetCell)) (granted g.grants (Only (memoryOf st)) 1 (target_of st))
+unfoldable pub pair_fine : Terms → List ℕ → Bool
+pair_fine g st = implies (ltb 0 (mark_at st target_cell)) (granted g.grants (Only (memory_of st)) 1 (target_of st))
 
 -- S10 "if it writes cell 1 or cell 2", S10 "also with the value that was there"
-unfoldable pub wrotePair : List Write → Bool
-wrotePair ws = some (λ w. within 1 2 w.cell.0) ws
+unfoldable pub wrote_pair : List Write → Bool
+wrote_pair ws = some (λ w. within 1 2 w.cell.0) ws
 
 -- S10 "A batch keeps the pair, from a state, if it writes neither cell, or if the pair is fine in the state that its writes make"
-unfoldable pub pairKept : Terms → List ℕ → List Write → Bool
-pairKept g st ws = implies (wrotePair ws) (pairFine g (applyAll st ws))
+unfoldable pub pair_kept : Terms → List ℕ → List Write → Bool
+pair_kept g st ws = implies (wrote_pair ws) (pair_fine g (apply_all st ws))
 
 -- ---- permitted batches
 
@@ -57,7 +57,7 @@ pairKept g st ws = implies (wrotePair ws) (pairFine g (applyAll st ws))
 -- permitted.", as no packets
 pub record Permitted (g : Terms) (st ws : List ℕ) : Type 0 where
   pub cut : Cut g ws
-  pub pair : T (pairKept g st (allWrites cut.packets))
+  pub pair : T (pair_kept g st (all_writes cut.packets))
 
 -- D3 "some permitted batch begins with" these words; what it goes on with is words of 32 bits
 pub record Begins (g : Terms) (st ws : List ℕ) : Type 0 where
@@ -77,7 +77,7 @@ pub record Longest (g : Terms) (st ws : List ℕ) (p : ℕ) : Type 0 where
 pub record Takes (g : Terms) (ws st : List ℕ) : Type 0 where
   pub words : All Word ws
   pub permitted : Permitted g empty ws
-  pub leaves : applyAll empty (allWrites permitted.cut.packets) ≡ st
+  pub leaves : apply_all empty (all_writes permitted.cut.packets) ≡ st
 
 -- D2 "some batch leads from the empty state to a state"
 pub record Reached (g : Terms) (st : List ℕ) : Type 0 where

@@ -25,32 +25,32 @@ unfoldable pub offset : ℕ → ℕ
 offset h = bits 15 0 h
 
 -- the offset, where it is meant for a video register
-abbrev pub videoOffset : ℕ → VideoOffset
-videoOffset h = record { 0 = offset h }
+abbrev pub video_offset : ℕ → VideoOffset
+video_offset h = record { 0 = offset h }
 
 -- B3 "The first is bound for the header's offset, each one after it for an offset that is 4 higher."
 abbrev pub following : VideoOffset → VideoOffset
 following o = record { 0 = o.0 + 4 }
 
 -- B5 "the setting: HParaAdr in bits 7:0"
-unfoldable pub paraAdr : ℕ → ℕ
-paraAdr s = bits 7 0 s
+unfoldable pub para_adr : ℕ → ℕ
+para_adr s = bits 7 0 s
 
 -- B5 "HParaOS in bits 15:8"
-unfoldable pub paraOS : ℕ → ℕ
-paraOS s = bits 15 8 s
+unfoldable pub para_os : ℕ → ℕ
+para_os s = bits 15 8 s
 
 -- B5 "HParaType in bits 23:16"
-unfoldable pub paraType : ℕ → ℕ
-paraType s = bits 23 16 s
+unfoldable pub para_type : ℕ → ℕ
+para_type s = bits 23 16 s
 
 -- B5 "HParaSubType in bits 31:24"
-unfoldable pub paraSubType : ℕ → ℕ
-paraSubType s = bits 31 24 s
+unfoldable pub para_sub_type : ℕ → ℕ
+para_sub_type s = bits 31 24 s
 
 -- B8 "parameters: a sub-address in bits 31:24"
-unfoldable pub subAddress : ℕ → SubAddress
-subAddress p = record { 0 = bits 31 24 p }
+unfoldable pub sub_address : ℕ → SubAddress
+sub_address p = record { 0 = bits 31 24 p }
 
 -- B8 "data in bits 23:0"
 unfoldable pub data24 : ℕ → ℕ

@@ -4,10 +4,10 @@ ghost use Rattle.std.specs.Prelude.{◌≡◌, ◌+◌, ◌*◌, ◌≤◌, T, l
 ghost use Rattle.laws.specs.Lists.{over};
 ghost use Rattle.meaning.specs.Words.{words_of};
 ghost use Rattle.meaning.specs.Registers.{cells};
-ghost use Rattle.meaning.specs.State.{stateWords, wellFormed};
-ghost use Rattle.meaning.specs.Exported.{mostBytes};
-ghost use Rattle.meaning.specs.Lister.{mostListed};
-ghost use Rattle.name_grants.specs.Named.{grantsIn, batchIn, grantPlaces, told, named, mostNamed};
+ghost use Rattle.meaning.specs.State.{state_words, well_formed};
+ghost use Rattle.meaning.specs.Exported.{most_bytes};
+ghost use Rattle.meaning.specs.Lister.{most_listed};
+ghost use Rattle.name_grants.specs.Named.{grants_in, batch_in, grant_places, told, named, most_named};
 
 use meaning::{CELLS, Cell, MOST_BYTES, MOST_LISTED, STATE_WORDS};
 
@@ -22,17 +22,17 @@ const OUTPUT_ROOM: usize = WORD + CELLS + MOST_LISTED;
 
 // Where the array is made, so that no proof but this one has to look at 131,078 zeros.
 fn input_buffer() -> [u8; INPUT_ROOM]
-    ensures whole { 4 + 2 * (mostBytes + 1) ≡ length result }
+    ensures whole { 4 + 2 * (most_bytes + 1) ≡ length result }
 {
     [0; INPUT_ROOM]
 }
 
 // The place of the query's answer for each marked cell. Here and below the answer is how many bytes are put.
 fn put_grants(state: &[u8], grants: &[u8], out: &mut [u8]) -> usize
-    requires whole { length (words_of state.now) ≡ stateWords }
+    requires whole { length (words_of state.now) ≡ state_words }
     requires room { cells ≤ length out.old }
-    ensures count { result ≡ length (grantPlaces state.now grants.now 0 cells) }
-    ensures bytes { out.new ≡ over (grantPlaces state.now grants.now 0 cells) out.old }
+    ensures count { result ≡ length (grant_places state.now grants.now 0 cells) }
+    ensures bytes { out.new ≡ over (grant_places state.now grants.now 0 cells) out.old }
 {
     let mut count = 0;
     let mut c = 0;
@@ -49,9 +49,9 @@ fn put_grants(state: &[u8], grants: &[u8], out: &mut [u8]) -> usize
 
 // What is told of a state that a batch left: the places, and the listing behind them.
 fn put_state(state: &[u8], grants: &[u8], out: &mut [u8]) -> usize
-    requires size { length state.now ≡ stateWords * 4 }
-    requires formed { T (wellFormed (words_of state.now)) }
-    requires room { length out.old ≡ cells + mostListed }
+    requires size { length state.now ≡ state_words * 4 }
+    requires formed { T (well_formed (words_of state.now)) }
+    requires room { length out.old ≡ cells + most_listed }
     ensures count { result ≡ length (told state.now grants.now) }
     ensures bytes { out.new ≡ over (told state.now grants.now) out.old }
 {
@@ -62,7 +62,7 @@ fn put_state(state: &[u8], grants: &[u8], out: &mut [u8]) -> usize
 
 // What is written of a grant list and a batch.
 fn report(grants: &[u8], batch: &[u8], out: &mut [u8]) -> usize
-    requires room { length out.old ≡ mostNamed }
+    requires room { length out.old ≡ most_named }
     ensures count { result ≡ length (named grants.now batch.now) }
     ensures bytes { out.new ≡ over (named grants.now batch.now) out.old }
 {
@@ -79,8 +79,8 @@ fn report(grants: &[u8], batch: &[u8], out: &mut [u8]) -> usize
 fn list_length(input: &[u8]) -> usize
     requires word { 4 ≤ length input.now }
     ensures inside { 4 + result ≤ length input.now }
-    ensures grants { take result (drop 4 input.now) ≡ grantsIn input.now }
-    ensures batch { drop result (drop 4 input.now) ≡ batchIn input.now }
+    ensures grants { take result (drop 4 input.now) ≡ grants_in input.now }
+    ensures batch { drop result (drop 4 input.now) ≡ batch_in input.now }
 {
     let length = words::word(input, 0) as usize;
     let most = input.len() - WORD;
@@ -92,9 +92,9 @@ fn list_length(input: &[u8]) -> usize
 
 // What is written of the input. Without a first word there are neither grants nor a batch.
 fn report_input(input: &[u8], out: &mut [u8]) -> usize
-    requires room { length out.old ≡ mostNamed }
-    ensures count { result ≡ length (named (grantsIn input.now) (batchIn input.now)) }
-    ensures bytes { out.new ≡ over (named (grantsIn input.now) (batchIn input.now)) out.old }
+    requires room { length out.old ≡ most_named }
+    ensures count { result ≡ length (named (grants_in input.now) (batch_in input.now)) }
+    ensures bytes { out.new ≡ over (named (grants_in input.now) (batch_in input.now)) out.old }
 {
     if input.len() < WORD {
         return report(b"", b"", out);

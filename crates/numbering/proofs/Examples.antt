@@ -9,11 +9,11 @@ use Rattle.laws.specs.Lists.{from}
 use Rattle.meaning.specs.declared.Memory.TheVariants.{Either, Only}
 use Rattle.meaning.specs.declared.Which.{Which}
 use Rattle.meaning.specs.declared.Which.TheVariants as by
-use Rattle.meaning.specs.Registers.{cells, cell, targetGroup, stage, sample, overlay, scaler, sections, registerAmong, registerIn, registerAt}
-use Rattle.meaning.specs.Grants.{Grant, covers, whichFrom, which}
+use Rattle.meaning.specs.Registers.{cells, cell, target_group, stage, sample, overlay, scaler, sections, register_among, register_in, register_at}
+use Rattle.meaning.specs.Grants.{Grant, covers, which_from, which}
 use Rattle.meaning.specs.State.{empty}
-use Rattle.meaning.specs.Pair.{memoryOf}
-use Rattle.meaning.specs.Query.{whichAt}
+use Rattle.meaning.specs.Pair.{memory_of}
+use Rattle.meaning.specs.Query.{which_at}
 
 -- a grant by its words
 abbrev grant : ℕ → ℕ → ℕ → ℕ → ℕ → Grant
@@ -35,7 +35,7 @@ several =
 
 -- memory, role, address and what is told: the lowest of four, in whichever memory and in each; the last address and one step past it, the
 -- end of all; nobody, there and in memories that there are none of
-pub several-hold : (which several Either 1 0x00100000 ≡ by.Grant 2)
+pub several_hold : (which several Either 1 0x00100000 ≡ by.Grant 2)
     × (which several (Only 0) 1 0x00100000 ≡ by.Grant 3)
     × (which several (Only 1) 1 0x00100000 ≡ by.Grant 2)
     × (which several (Only 1) 1 0x00100100 ≡ by.Grant 5)
@@ -48,8 +48,8 @@ pub several-hold : (which several Either 1 0x00100000 ≡ by.Grant 2)
     × (which several Either 2 0x00180000 ≡ by.Nobody)
     × (which several Either 3 0x00000FF0 ≡ by.Grant 6)
     × (which several Either 3 0x00000FF1 ≡ by.Nobody)
-unfolding whichFrom covers
-several-hold = (refl, refl, refl, refl, refl, refl, refl, refl, refl, refl, refl, refl, refl)
+unfolding which_from covers
+several_hold = (refl, refl, refl, refl, refl, refl, refl, refl, refl, refl, refl, refl, refl)
 
 -- a state with one cell more marked
 abbrev with : List ℕ → ℕ → ℕ → List ℕ
@@ -60,12 +60,12 @@ holding c v = with empty c v
 
 -- which grant of these, of a state and a cell
 abbrev told : List ℕ → ℕ → Which
-told st c = whichAt (record { grants = several }) st (cell c)
+told st c = which_at (record { grants = several }) st (cell c)
 
 -- cell 1 by its value × 256, also where that is past 2^32, and in the memory that cell 2 names, if it names one; a scaler's by bits 28:4,
 -- whatever the other bits are; 0 is an address where the cell is marked, and none where it is not; a cell without an address, and a number
 -- that is no cell's
-pub cells-hold : (told (holding 1 0x001000) 1 ≡ by.Grant 3)
+pub cells_hold : (told (holding 1 0x001000) 1 ≡ by.Grant 3)
     × (told (with (holding 1 0x001000) 2 0x000000) 1 ≡ by.Grant 3)
     × (told (with (holding 1 0x001000) 2 0x100000) 1 ≡ by.Grant 2)
     × (told (with (holding 1 0x001000) 2 0x200000) 1 ≡ by.Nobody)
@@ -76,5 +76,5 @@ pub cells-hold : (told (holding 1 0x001000) 1 ≡ by.Grant 3)
     × (told (holding 96 0) 97 ≡ by.Nobody)
     × (told (holding 3 0x001000) 3 ≡ by.Nobody)
     × (told (holding 1 0x001000) 202 ≡ by.Nobody)
-unfolding whichAt whichFrom covers memoryOf empty registerAt registerIn registerAmong sections targetGroup stage sample overlay scaler from
-cells-hold = (refl, refl, refl, refl, refl, refl, refl, refl, refl, refl, refl)
+unfolding which_at which_from covers memory_of empty register_at register_in register_among sections target_group stage sample overlay scaler from
+cells_hold = (refl, refl, refl, refl, refl, refl, refl, refl, refl, refl, refl)

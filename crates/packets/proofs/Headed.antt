@@ -10,23 +10,23 @@ use lib.Seq.{slice, slice-cons}
 use Rattle.meaning.specs.declared.Answer.{Answer}
 use Rattle.meaning.specs.declared.Kind.{Kind}
 use Rattle.meaning.specs.declared.Kind.TheVariants.{Setting, Parameter}
-use Rattle.meaning.specs.Grants.{Terms, mostGrants}
+use Rattle.meaning.specs.Grants.{Terms, most_grants}
 use Rattle.meaning.specs.Batch.{allowed}
-use Rattle.meaning.specs.State.{applyAll}
+use Rattle.meaning.specs.State.{apply_all}
 use Rattle.meaning.specs.Positions.{kind_of, after, goes, carries}
-use Rattle.meaning.specs.Answers.{badSetting}
-use Rattle.meaning.specs.Reader.{unless, headerReason, wordReason}
+use Rattle.meaning.specs.Answers.{bad_setting}
+use Rattle.meaning.specs.Reader.{unless, header_reason, word_reason}
 use Rattle.grants.specs.declared.Part.{Part}
 use Rattle.grants.specs.Kept.{part_of, Bounded, Granting, Keeps}
 use Rattle.rows_video.specs.Scalers.{Scaler}
-use Rattle.rows_video.proofs.Scalers.{scaler-granted}
+use Rattle.rows_video.proofs.Scalers.{scaler_granted}
 use Rattle.headers.specs.declared.Group.{Group}
 use Rattle.headers.specs.declared.Group.TheVariants.{Target, Stage, Sample, Nothing}
 use Rattle.headers.specs.Headers.{group_of}
 use Rattle.headers.specs.Told.{Leads, Names}
 use Rattle.headers.proofs.Groups.{names}
-use Rattle.bodies.specs.Passes.{Passed, passed, answer_of, bodyFrom}
-use Rattle.bodies.proofs.Bodies.{else-stop}
+use Rattle.bodies.specs.Passes.{Passed, passed, answer_of, body_from}
+use Rattle.bodies.proofs.Bodies.{else_stop}
 use Rattle.packets.specs.Packets.{headed}
 
 -- ---- an answer and a state
@@ -51,11 +51,11 @@ always f = (λ g st. (f g st).0, λ g st. (f g st).1)
 -- ---- a header, and the words at hand
 
 module _ (g : Terms) (i h : ℕ) (ws st : List ℕ) where
-  pub head-refused : (r : ℕ) → headerReason h ≡ r → (r ≡ 0 → ⊥) → Comes (record { reason = r; place = i }) st (headed g i h ws st)
+  pub head_refused : (r : ℕ) → header_reason h ≡ r → (r ≡ 0 → ⊥) → Comes (record { reason = r; place = i }) st (headed g i h ws st)
   unfolding headed
-  head-refused r e n = comes (ap (λ (x : ℕ). passed x i st) (sym e) ∙ sym (else-stop (headerReason h) i st _ (λ z. n (sym e ∙ z))))
+  head_refused r e n = comes (ap (λ (x : ℕ). passed x i st) (sym e) ∙ sym (else_stop (header_reason h) i st _ (λ z. n (sym e ∙ z))))
 
-  pub head_passed : headerReason h ≡ 0 → {kind : Kind} → kind_of h ≡ kind → {a : Answer} {left : List ℕ} → Comes a left (bodyFrom g (i + 1) kind ws st) → Comes a left (headed g i h ws st)
+  pub head_passed : header_reason h ≡ 0 → {kind : Kind} → kind_of h ≡ kind → {a : Answer} {left : List ℕ} → Comes a left (body_from g (i + 1) kind ws st) → Comes a left (headed g i h ws st)
   unfolding headed
   head_passed z k is = rw (z, k, ← add-one i) is
 
@@ -75,27 +75,27 @@ module _ (g : Terms) (ws : List ℕ) {s : ℕ} (at : ℕ) (es : s ≡ get_or ws 
   opened : slice at end ws ≡ s ∷ slice (at + 1) end ws
   opened = rw (es, add-one at) (slice-cons at end ws 0 l whole)
 
-  first : allowed s ≡ true → bodyFrom g at Setting (slice at end ws) st ≡ bodyFrom g (at + 1) (Parameter s) (slice (at + 1) end ws) st
-  unfolding bodyFrom wordReason unless after goes carries applyAll
-  first f = ap (λ (x : List ℕ). bodyFrom g at Setting x st) opened ∙ rw (f, add-one at)
+  first : allowed s ≡ true → body_from g at Setting (slice at end ws) st ≡ body_from g (at + 1) (Parameter s) (slice (at + 1) end ws) st
+  unfolding body_from word_reason unless after goes carries apply_all
+  first f = ap (λ (x : List ℕ). body_from g at Setting x st) opened ∙ rw (f, add-one at)
 
   -- one that is allowed,
-  pub settled : allowed s ≡ true → {a : Answer} {left : List ℕ} → Comes a left (bodyFrom g (at + 1) (Parameter s) (slice (at + 1) end ws) st) → Comes a left (bodyFrom g at Setting (slice at end ws) st)
+  pub settled : allowed s ≡ true → {a : Answer} {left : List ℕ} → Comes a left (body_from g (at + 1) (Parameter s) (slice (at + 1) end ws) st) → Comes a left (body_from g at Setting (slice at end ws) st)
   settled f is = rw (first f) is
 
   -- and one that is not
-  pub unsettled : allowed s ≡ false → Comes (record { reason = badSetting; place = at }) st (bodyFrom g at Setting (slice at end ws) st)
-  unfolding bodyFrom wordReason unless
-  unsettled f = comes (sym (ap (λ (x : List ℕ). bodyFrom g at Setting x st) opened ∙ rw f))
+  pub unsettled : allowed s ≡ false → Comes (record { reason = bad_setting; place = at }) st (body_from g at Setting (slice at end ws) st)
+  unfolding body_from word_reason unless
+  unsettled f = comes (sym (ap (λ (x : List ℕ). body_from g at Setting x st) opened ∙ rw f))
 
 -- ---- a role's part of what is kept
 
 module _ (bounds : List ℕ) (role : ℕ) {part : Part} (e : part ≡ part_of bounds role) where
-  pub part-inside : Bounded bounds → role < 4 → part.to ≤ mostGrants
-  part-inside b l = rw e (b role l)
+  pub part_inside : Bounded bounds → role < 4 → part.to ≤ most_grants
+  part_inside b l = rw e (b role l)
 
-  pub scaler-part : {c : ℕ} → Scaler c role → (g : Terms) (starts lasts : List ℕ) → Keeps g starts lasts bounds → Granting g role starts lasts part
-  scaler-part s g starts lasts k = rw e (scaler-granted g starts lasts bounds s k)
+  pub scaler_part : {c : ℕ} → Scaler c role → (g : Terms) (starts lasts : List ℕ) → Keeps g starts lasts bounds → Granting g role starts lasts part
+  scaler_part s g starts lasts k = rw e (scaler_granted g starts lasts bounds s k)
 
-pub target-part : (bounds : List ℕ) {part : Part} → part ≡ part_of bounds 1 → (g : Terms) (starts lasts : List ℕ) → Keeps g starts lasts bounds → Granting g 1 starts lasts part
-target-part bounds e g starts lasts k = rw e k.targets
+pub target_part : (bounds : List ℕ) {part : Part} → part ≡ part_of bounds 1 → (g : Terms) (starts lasts : List ℕ) → Keeps g starts lasts bounds → Granting g 1 starts lasts part
+target_part bounds e g starts lasts k = rw e k.targets

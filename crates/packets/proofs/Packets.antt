@@ -17,15 +17,15 @@ use Rattle.meaning.specs.declared.Kind.TheVariants.{Setting}
 use Rattle.meaning.specs.declared.Answer.{Answer}
 use Rattle.meaning.specs.Words.{count}
 use Rattle.meaning.specs.Grants.{Terms}
-use Rattle.meaning.specs.State.{Write, apply, applyAll}
-use Rattle.meaning.specs.Positions.{kind_of, after, nextKind, nextLeft, writeAt, writesFrom, writes_of}
-use Rattle.meaning.specs.Answers.{success, endsInside, answer}
-use Rattle.meaning.specs.Reader.{headerReason, wordReason, judge, follow, ended, run, batchAnswer}
-use Rattle.meaning.proofs.States.{applied-append}
-use Rattle.meaning.proofs.Stretches.{afterAll}
-use Rattle.bodies.specs.Passes.{Passed, passed, answer_of, or_else, applied, bodyFrom}
-use Rattle.bodies.proofs.Bodies.{else-on, else-stop}
-use Rattle.packets.specs.Packets.{headed, up_to, packetFrom, ends, packetsFrom}
+use Rattle.meaning.specs.State.{Write, apply, apply_all}
+use Rattle.meaning.specs.Positions.{kind_of, after, next_kind, next_left, write_at, writes_from, writes_of}
+use Rattle.meaning.specs.Answers.{success, ends_inside, answer}
+use Rattle.meaning.specs.Reader.{header_reason, word_reason, judge, follow, ended, run, batch_answer}
+use Rattle.meaning.proofs.States.{applied_append}
+use Rattle.meaning.proofs.Stretches.{after_all}
+use Rattle.bodies.specs.Passes.{Passed, passed, answer_of, or_else, applied, body_from}
+use Rattle.bodies.proofs.Bodies.{else_on, else_stop}
+use Rattle.packets.specs.Packets.{headed, up_to, packet_from, ends, packets_from}
 use Rattle.packets.proofs.Headed.{Comes}
 
 -- ---- a packet, from what was read of it
@@ -41,8 +41,8 @@ middle (suc f) n [] = let e : suc f + n ≡ suc (f + n) = omega arith in rw e (s
 middle (suc f) n (x ∷ l) = let e : suc f + n ≡ suc (f + n) = omega arith in rw e (middle f n l)
 
 -- the words at hand of the n that follow place `at`
-at-hand : (ws : List ℕ) (at n : ℕ) → at < length ws → (end : ℕ) → end ≡ min (at + 1 + n) (length ws) → slice (at + 1) end ws ≡ take n (drop (at + 1) ws)
-at-hand ws at n l end e =
+at_hand : (ws : List ℕ) (at n : ℕ) → at < length ws → (end : ℕ) → end ≡ min (at + 1 + n) (length ws) → slice (at + 1) end ws ≡ take n (drop (at + 1) ws)
+at_hand ws at n l end e =
     elim (dec_lt (at + 1 + n) (length ws)) [
       | yes h ↦ let m : end ≡ at + 1 + n = omega arith in rw m (middle (at + 1) n ws)
       | no h ↦
@@ -51,61 +51,61 @@ at-hand ws at n l end e =
     ]
 
 -- a header h at a place, and the words of its packet up to another
-module _ (g : Terms) (ws : List ℕ) (at : ℕ) (st : List ℕ) (l : at < length ws) {h : ℕ} (is-header : h ≡ get_or ws at 0) (end : ℕ) (is-end : end ≡ min (at + 1 + count h) (length ws)) where
+module _ (g : Terms) (ws : List ℕ) (at : ℕ) (st : List ℕ) (l : at < length ws) {h : ℕ} (is_header : h ≡ get_or ws at 0) (end : ℕ) (is_end : end ≡ min (at + 1 + count h) (length ws)) where
   abbrev read : Passed
   read = headed g at h (slice (at + 1) end ws) st
 
-  packet-is : packetFrom g at (drop at ws) st ≡ up_to (at + 1 + count h) read
-  unfolding packetFrom
-  packet-is = rw (rest ws at l, ← is-header, at-hand ws at (count h) l end is-end, add-one at)
+  packet_is : packet_from g at (drop at ws) st ≡ up_to (at + 1 + count h) read
+  unfolding packet_from
+  packet_is = rw (rest ws at l, ← is_header, at_hand ws at (count h) l end is_end, add-one at)
 
   module _ {a : Answer} {left : List ℕ} (ea : a ≡ answer_of read) (el : left ≡ read.state) where
-    reason-is : a.reason ≡ read.reason
-    reason-is = ap (λ (x : Answer). x.reason) ea
+    reason_is : a.reason ≡ read.reason
+    reason_is = ap (λ (x : Answer). x.reason) ea
 
     -- a word of it is refused
-    pub packet-refused : (a.reason ≡ 0 → ⊥) → Comes a left (packetFrom g at (drop at ws) st)
-    packet-refused n = rw (packet-is ∙ else-stop read.reason read.place read.state _ (λ z. n (reason-is ∙ z))) (ea, el)
+    pub packet_refused : (a.reason ≡ 0 → ⊥) → Comes a left (packet_from g at (drop at ws) st)
+    packet_refused n = rw (packet_is ∙ else_stop read.reason read.place read.state _ (λ z. n (reason_is ∙ z))) (ea, el)
 
     -- none is
-    pub packet-passed : a.reason ≡ 0 → {p : ℕ} → p ≡ at + 1 + count h
-        → Comes (record { reason = 0; place = p }) left (packetFrom g at (drop at ws) st)
-    packet-passed z e = rw (packet-is ∙ else-on read.place read.state (sym reason-is ∙ z)) (ap (answer success) e, el)
+    pub packet_passed : a.reason ≡ 0 → {p : ℕ} → p ≡ at + 1 + count h
+        → Comes (record { reason = 0; place = p }) left (packet_from g at (drop at ws) st)
+    packet_passed z e = rw (packet_is ∙ else_on read.place read.state (sym reason_is ∙ z)) (ap (answer success) e, el)
 
 -- ---- words from a position on
 
 -- between packets the kind does not matter
-between : (g : Terms) (i : ℕ) (x y : Kind) (ws st : List ℕ) → packetsFrom g i x 0 ws st ≡ packetsFrom g i y 0 ws st
-unfolding packetsFrom judge nextKind nextLeft writeAt
+between : (g : Terms) (i : ℕ) (x y : Kind) (ws st : List ℕ) → packets_from g i x 0 ws st ≡ packets_from g i y 0 ws st
+unfolding packets_from judge next_kind next_left write_at
 between g i x y [] st = refl
 between g i x y (w ∷ ws) st = refl
 
 header_read : (g : Terms) (i : ℕ) (kind : Kind) (w : ℕ) (ws st : List ℕ)
-    → packetsFrom g i kind 0 (w ∷ ws) st ≡ or_else (headerReason w) i st (packetsFrom g (suc i) (kind_of w) (count w) ws st)
-unfolding packetsFrom judge nextKind nextLeft writeAt applyAll
+    → packets_from g i kind 0 (w ∷ ws) st ≡ or_else (header_reason w) i st (packets_from g (suc i) (kind_of w) (count w) ws st)
+unfolding packets_from judge next_kind next_left write_at apply_all
 header_read g i kind w ws st = refl
 
 word_read : (g : Terms) (i : ℕ) (kind : Kind) (k w : ℕ) (ws st : List ℕ)
-    → packetsFrom g i kind (suc k) (w ∷ ws) st ≡ or_else (wordReason g kind w) i st (packetsFrom g (suc i) (after kind w) k ws (applied kind w st))
-unfolding packetsFrom judge nextKind nextLeft writeAt
+    → packets_from g i kind (suc k) (w ∷ ws) st ≡ or_else (word_reason g kind w) i st (packets_from g (suc i) (after kind w) k ws (applied kind w st))
+unfolding packets_from judge next_kind next_left write_at
 word_read g i kind k w ws st = refl
 
 -- ---- a stretch: what its words come to, and then what follows it
 
-abbrev afterBody : Passed → (List ℕ → Passed) → Passed
-afterBody a more = or_else a.reason a.place a.state (more a.state)
+abbrev after_body : Passed → (List ℕ → Passed) → Passed
+after_body a more = or_else a.reason a.place a.state (more a.state)
 
-body-else : (r i : ℕ) (st : List ℕ) (a : Passed) (more : List ℕ → Passed) → afterBody (or_else r i st a) more ≡ or_else r i st (afterBody a more)
-body-else zero i st a more = refl
-body-else (suc r) i st a more = refl
+body_else : (r i : ℕ) (st : List ℕ) (a : Passed) (more : List ℕ → Passed) → after_body (or_else r i st a) more ≡ or_else r i st (after_body a more)
+body_else zero i st a more = refl
+body_else (suc r) i st a more = refl
 
 stretch : (g : Terms) (i : ℕ) (kind : Kind) (k : ℕ) (xs ys st : List ℕ) → length xs ≤ k
-    → packetsFrom g i kind k (xs ++ ys) st ≡ afterBody (bodyFrom g i kind xs st) (λ left. packetsFrom g (i + length xs) (afterAll kind xs) (k - length xs) ys left)
-unfolding bodyFrom afterAll
+    → packets_from g i kind k (xs ++ ys) st ≡ after_body (body_from g i kind xs st) (λ left. packets_from g (i + length xs) (after_all kind xs) (k - length xs) ys left)
+unfolding body_from after_all
 stretch g i kind k [] ys st l =
     let e : k ≡ k - 0 = omega arith in
     let f : i ≡ i + 0 = omega arith in
-    ap (λ (n : ℕ). packetsFrom g n kind k ys st) f ∙ ap (λ (n : ℕ). packetsFrom g (i + 0) kind n ys st) e
+    ap (λ (n : ℕ). packets_from g n kind k ys st) f ∙ ap (λ (n : ℕ). packets_from g (i + 0) kind n ys st) e
 stretch g i kind zero (x ∷ xs) ys st l = absurd (omega arith)
 stretch g i kind (suc k) (x ∷ xs) ys st l =
     let e : suc i + length xs ≡ i + suc (length xs) = omega arith in
@@ -113,26 +113,26 @@ stretch g i kind (suc k) (x ∷ xs) ys st l =
     let next = after kind x in
     let left = applied kind x st in
     word_read g i kind k x (xs ++ ys) st
-    ∙ ap (or_else (wordReason g kind x) i st) (
+    ∙ ap (or_else (word_reason g kind x) i st) (
     stretch g (suc i) next k xs ys left (omega arith)
-    ∙ ap (λ (n : ℕ). afterBody (bodyFrom g (suc i) next xs left) (λ end. packetsFrom g n (afterAll next xs) (k - length xs) ys end)) e
-    ∙ ap (λ (n : ℕ). afterBody (bodyFrom g (suc i) next xs left) (λ end. packetsFrom g (i + suc (length xs)) (afterAll next xs) n ys end)) f)
-    ∙ sym (body-else (wordReason g kind x) i st (bodyFrom g (suc i) next xs left)
-    (λ end. packetsFrom g (i + suc (length xs)) (afterAll next xs) (suc k - suc (length xs)) ys end))
+    ∙ ap (λ (n : ℕ). after_body (body_from g (suc i) next xs left) (λ end. packets_from g n (after_all next xs) (k - length xs) ys end)) e
+    ∙ ap (λ (n : ℕ). after_body (body_from g (suc i) next xs left) (λ end. packets_from g (i + suc (length xs)) (after_all next xs) n ys end)) f)
+    ∙ sym (body_else (word_reason g kind x) i st (body_from g (suc i) next xs left)
+    (λ end. packets_from g (i + suc (length xs)) (after_all next xs) (suc k - suc (length xs)) ys end))
 
 -- what stands after a packet's header and the words of its body that are at hand
-abbrev tailOf : Terms → ℕ → ℕ → List ℕ → List ℕ → Passed
-tailOf g i h ws left =
-    let xs = take (count h) ws in packetsFrom g (suc i + length xs) (afterAll (kind_of h) xs) (count h - length xs) (drop (count h) ws) left
+abbrev tail_of : Terms → ℕ → ℕ → List ℕ → List ℕ → Passed
+tail_of g i h ws left =
+    let xs = take (count h) ws in packets_from g (suc i + length xs) (after_all (kind_of h) xs) (count h - length xs) (drop (count h) ws) left
 
-packet-tail : (g : Terms) (i : ℕ) (kind : Kind) (h : ℕ) (ws st : List ℕ) → packetsFrom g i kind 0 (h ∷ ws) st ≡ afterBody (headed g i h (take (count h) ws) st) (tailOf g i h ws)
+packet_tail : (g : Terms) (i : ℕ) (kind : Kind) (h : ℕ) (ws st : List ℕ) → packets_from g i kind 0 (h ∷ ws) st ≡ after_body (headed g i h (take (count h) ws) st) (tail_of g i h ws)
 unfolding headed
-packet-tail g i kind h ws st =
+packet_tail g i kind h ws st =
     header_read g i kind h ws st
-    ∙ ap (or_else (headerReason h) i st) (
-    ap (λ (l : List ℕ). packetsFrom g (suc i) (kind_of h) (count h) l st) (sym (take-append-drop (count h) ws))
+    ∙ ap (or_else (header_reason h) i st) (
+    ap (λ (l : List ℕ). packets_from g (suc i) (kind_of h) (count h) l st) (sym (take-append-drop (count h) ws))
     ∙ stretch g (suc i) (kind_of h) (count h) (take (count h) ws) (drop (count h) ws) st (few (count h) ws))
-    ∙ sym (body-else (headerReason h) i st (bodyFrom g (suc i) (kind_of h) (take (count h) ws) st) (tailOf g i h ws))
+    ∙ sym (body_else (header_reason h) i st (body_from g (suc i) (kind_of h) (take (count h) ws) st) (tail_of g i h ws))
   where
     few : (n : ℕ) (l : List ℕ) → length (take n l) ≤ n
     few zero l = omega arith
@@ -143,16 +143,16 @@ packet-tail g i kind h ws st =
 
 -- the packets from place i on; where the batch ends before it, it ends inside a packet
 unfoldable pub ahead : Terms → ℕ → List ℕ → List ℕ → Passed
-ahead g i ws st = cond (leb i (length ws)) (packetsFrom g i Setting 0 (drop i ws) st) (passed endsInside (length ws) st)
+ahead g i ws st = cond (leb i (length ws)) (packets_from g i Setting 0 (drop i ws) st) (passed ends_inside (length ws) st)
 
-pub all-ahead : (g : Terms) (ws st : List ℕ) → ahead g 0 ws st ≡ packetsFrom g 0 Setting 0 ws st
+pub all_ahead : (g : Terms) (ws st : List ℕ) → ahead g 0 ws st ≡ packets_from g 0 Setting 0 ws st
 unfolding ahead
-all-ahead g ws st = rw (le-leb 0 (length ws) (omega arith))
+all_ahead g ws st = rw (le-leb 0 (length ws) (omega arith))
 
 -- a packet that is whole is followed by the next; one that is not, by nothing
-tail-ahead : (g : Terms) (ws : List ℕ) (i h : ℕ) (left : List ℕ) → i < length ws → tailOf g i h (drop (i + 1) ws) left ≡ ahead g (i + 1 + count h) ws left
-unfolding ahead packetsFrom
-tail-ahead g ws i h left l =
+tail_ahead : (g : Terms) (ws : List ℕ) (i h : ℕ) (left : List ℕ) → i < length ws → tail_of g i h (drop (i + 1) ws) left ≡ ahead g (i + 1 + count h) ws left
+unfolding ahead packets_from
+tail_ahead g ws i h left l =
     let long : length (drop (i + 1) ws) ≡ length ws - (i + 1) = length-drop (i + 1) ws in
     elim (dec_lt (length ws) (i + 1 + count h)) [
       | yes s ↦
@@ -171,57 +171,57 @@ tail-ahead g ws i h left l =
 module _ (g : Terms) (ws : List ℕ) (target : Passed) (st : List ℕ) (i : ℕ) (inv : ahead g i ws st ≡ target) where
   -- all is read
   pub all_read : {p : ℕ} → p ≡ length ws → i ≡ length ws → passed success p st ≡ target
-  unfolding ahead packetsFrom
-  all_read is-end e =
+  unfolding ahead packets_from
+  all_read is_end e =
       let inside : i ≤ length ws = omega arith in
       let none : length ws ≤ i = omega arith in
-      ap (λ (x : ℕ). passed success x st) (is-end ∙ sym e) ∙ (rw (le-leb i (length ws) inside, drop_of_length-le ws none) at inv)
+      ap (λ (x : ℕ). passed success x st) (is_end ∙ sym e) ∙ (rw (le-leb i (length ws) inside, drop_of_length-le ws none) at inv)
 
   -- the last packet is not whole
-  pub not-whole : {p : ℕ} → p ≡ length ws → length ws < i → passed endsInside p st ≡ target
+  pub not_whole : {p : ℕ} → p ≡ length ws → length ws < i → passed ends_inside p st ≡ target
   unfolding ahead
-  not-whole is-end l = ap (λ (x : ℕ). passed endsInside x st) is-end ∙ (rw (lt-leb i (length ws) l) at inv)
+  not_whole is_end l = ap (λ (x : ℕ). passed ends_inside x st) is_end ∙ (rw (lt-leb i (length ws) l) at inv)
 
-  module _ (l : i < length ws) {a : Answer} {left : List ℕ} (ea : a ≡ answer_of (packetFrom g i (drop i ws) st)) (el : left ≡ (packetFrom g i (drop i ws) st).state) where
+  module _ (l : i < length ws) {a : Answer} {left : List ℕ} (ea : a ≡ answer_of (packet_from g i (drop i ws) st)) (el : left ≡ (packet_from g i (drop i ws) st).state) where
     abbrev h : ℕ
     h = get_or ws i 0
 
     abbrev b : Passed
     b = headed g i h (take (count h) (drop (i + 1) ws)) st
 
-    target_is : afterBody b (tailOf g i h (drop (i + 1) ws)) ≡ target
+    target_is : after_body b (tail_of g i h (drop (i + 1) ws)) ≡ target
     unfolding ahead
     target_is =
         let inside = rw (le-leb i (length ws) (omega arith)) at inv in
-        sym (packet-tail g i Setting h (drop (i + 1) ws) st) ∙ sym (ap (λ (x : List ℕ). packetsFrom g i Setting 0 x st) (rest ws i l)) ∙ inside
+        sym (packet_tail g i Setting h (drop (i + 1) ws) st) ∙ sym (ap (λ (x : List ℕ). packets_from g i Setting 0 x st) (rest ws i l)) ∙ inside
 
-    packet-up : packetFrom g i (drop i ws) st ≡ up_to (suc i + count h) b
-    unfolding packetFrom
-    packet-up = ap (λ (x : List ℕ). packetFrom g i x st) (rest ws i l)
+    packet_up : packet_from g i (drop i ws) st ≡ up_to (suc i + count h) b
+    unfolding packet_from
+    packet_up = ap (λ (x : List ℕ). packet_from g i x st) (rest ws i l)
 
     -- the answer tells whether the header and the words at hand are fine
-    reason-up : (r : ℕ) → b.reason ≡ r → (up_to (suc i + count h) b).reason ≡ r
-    reason-up zero e = rw e
-    reason-up (suc r) e = rw e
+    reason_up : (r : ℕ) → b.reason ≡ r → (up_to (suc i + count h) b).reason ≡ r
+    reason_up zero e = rw e
+    reason_up (suc r) e = rw e
 
-    a-reason : a.reason ≡ b.reason
-    a-reason = ap (λ (x : Answer). x.reason) ea ∙ ap (λ (x : Passed). x.reason) packet-up ∙ reason-up b.reason refl
+    a_reason : a.reason ≡ b.reason
+    a_reason = ap (λ (x : Answer). x.reason) ea ∙ ap (λ (x : Passed). x.reason) packet_up ∙ reason_up b.reason refl
 
-    pub read-stop : (a.reason ≡ 0 → ⊥) → Comes a left target
-    read-stop n =
-        let m : b.reason ≡ 0 → ⊥ = λ z. n (a-reason ∙ z) in
-        let same : packetFrom g i (drop i ws) st ≡ target =
-        packet-up ∙ else-stop b.reason b.place b.state _ m ∙ sym (else-stop b.reason b.place b.state _ m) ∙ target_is
+    pub read_stop : (a.reason ≡ 0 → ⊥) → Comes a left target
+    read_stop n =
+        let m : b.reason ≡ 0 → ⊥ = λ z. n (a_reason ∙ z) in
+        let same : packet_from g i (drop i ws) st ≡ target =
+        packet_up ∙ else_stop b.reason b.place b.state _ m ∙ sym (else_stop b.reason b.place b.state _ m) ∙ target_is
         in
         (ea ∙ ap answer_of same, el ∙ ap (λ (x : Passed). x.state) same)
 
-    pub read-on : a.reason ≡ 0 → ahead g a.place ws left ≡ target
-    read-on z =
-        let fine : b.reason ≡ 0 = sym a-reason ∙ z in
-        let up : packetFrom g i (drop i ws) st ≡ passed success (suc i + count h) b.state = packet-up ∙ else-on b.place b.state fine in
+    pub read_on : a.reason ≡ 0 → ahead g a.place ws left ≡ target
+    read_on z =
+        let fine : b.reason ≡ 0 = sym a_reason ∙ z in
+        let up : packet_from g i (drop i ws) st ≡ passed success (suc i + count h) b.state = packet_up ∙ else_on b.place b.state fine in
         let place : a.place ≡ i + 1 + count h = ap (λ (x : Answer). x.place) ea ∙ ap (λ (x : Passed). x.place) up ∙ omega arith in
         let state : left ≡ b.state = el ∙ ap (λ (x : Passed). x.state) up in
-        rw (place, state) (sym (tail-ahead g ws i h b.state l) ∙ sym (else-on b.place b.state fine) ∙ target_is)
+        rw (place, state) (sym (tail_ahead g ws i h b.state l) ∙ sym (else_on b.place b.state fine) ∙ target_is)
 
 -- ---- all the words
 
@@ -229,60 +229,60 @@ module _ (g : Terms) (ws : List ℕ) (target : Passed) (st : List ℕ) (i : ℕ)
 abbrev counted : ℕ → Answer → Answer
 counted i a = answer a.reason (i + a.place)
 
-end-counted : (k i : ℕ) (st : List ℕ) → answer_of (ends k i st) ≡ counted i (ended k)
-end-counted zero i st = ap (answer success) (omega arith)
-end-counted (suc k) i st = ap (answer endsInside) (omega arith)
+end_counted : (k i : ℕ) (st : List ℕ) → answer_of (ends k i st) ≡ counted i (ended k)
+end_counted zero i st = ap (answer success) (omega arith)
+end_counted (suc k) i st = ap (answer ends_inside) (omega arith)
 
-word-counted : (r i : ℕ) (st : List ℕ) (x : Passed) (y : Answer) → answer_of x ≡ counted (suc i) y → answer_of (or_else r i st x) ≡ counted i (follow r y)
-word-counted zero i st x y e = e ∙ ap (answer y.reason) (omega arith)
-word-counted (suc r) i st x y e = ap (answer (suc r)) (omega arith)
+word_counted : (r i : ℕ) (st : List ℕ) (x : Passed) (y : Answer) → answer_of x ≡ counted (suc i) y → answer_of (or_else r i st x) ≡ counted i (follow r y)
+word_counted zero i st x y e = e ∙ ap (answer y.reason) (omega arith)
+word_counted (suc r) i st x y e = ap (answer (suc r)) (omega arith)
 
-from-run : (g : Terms) (i : ℕ) (kind : Kind) (k : ℕ) (ws st : List ℕ) → answer_of (packetsFrom g i kind k ws st) ≡ counted i (run g kind k ws)
-unfolding packetsFrom run
-from-run g i kind k [] st = end-counted k i st
-from-run g i kind k (w ∷ ws) st =
-    word-counted (judge g kind k w) i st _ _ (from-run g (suc i) (nextKind kind k w) (nextLeft k w) ws (applyAll st (writeAt kind k w)))
+from_run : (g : Terms) (i : ℕ) (kind : Kind) (k : ℕ) (ws st : List ℕ) → answer_of (packets_from g i kind k ws st) ≡ counted i (run g kind k ws)
+unfolding packets_from run
+from_run g i kind k [] st = end_counted k i st
+from_run g i kind k (w ∷ ws) st =
+    word_counted (judge g kind k w) i st _ _ (from_run g (suc i) (next_kind kind k w) (next_left k w) ws (apply_all st (write_at kind k w)))
 
 -- a property of what was left before a word, and of what comes after it, is one of what is left
-left-else : (P : List ℕ → Type 0) (r i : ℕ) (st : List ℕ) (x : Passed) → P st → P x.state → P (or_else r i st x).state
-left-else P zero i st x before after = after
-left-else P (suc r) i st x before after = before
+left_else : (P : List ℕ → Type 0) (r i : ℕ) (st : List ℕ) (x : Passed) → P st → P x.state → P (or_else r i st x).state
+left_else P zero i st x before after = after
+left_else P (suc r) i st x before after = before
 
 -- where nothing speaks against them, they leave what they write
-wrote-else : (r i : ℕ) (st : List ℕ) (x : Passed) (left : List ℕ) → (x.reason ≡ 0 → x.state ≡ left) → (or_else r i st x).reason ≡ 0 → (or_else r i st x).state ≡ left
-wrote-else zero i st x left h e = h e
-wrote-else (suc r) i st x left h e = absurd (omega arith)
+wrote_else : (r i : ℕ) (st : List ℕ) (x : Passed) (left : List ℕ) → (x.reason ≡ 0 → x.state ≡ left) → (or_else r i st x).reason ≡ 0 → (or_else r i st x).state ≡ left
+wrote_else zero i st x left h e = h e
+wrote_else (suc r) i st x left h e = absurd (omega arith)
 
-from-writes : (g : Terms) (i : ℕ) (kind : Kind) (k : ℕ) (ws st : List ℕ) → (packetsFrom g i kind k ws st).reason ≡ 0
-    → (packetsFrom g i kind k ws st).state ≡ applyAll st (writesFrom kind k ws)
-unfolding packetsFrom writesFrom applyAll
-from-writes g i kind zero [] st e = refl
-from-writes g i kind (suc k) [] st e = refl
-from-writes g i kind k (w ∷ ws) st e =
-    wrote-else (judge g kind k w) i st _ _
-    (λ z. from-writes g (suc i) (nextKind kind k w) (nextLeft k w) ws (applyAll st (writeAt kind k w)) z ∙ sym (applied-append st (writeAt kind k w) (writesFrom (nextKind kind k w) (nextLeft k w) ws)))
+from_writes : (g : Terms) (i : ℕ) (kind : Kind) (k : ℕ) (ws st : List ℕ) → (packets_from g i kind k ws st).reason ≡ 0
+    → (packets_from g i kind k ws st).state ≡ apply_all st (writes_from kind k ws)
+unfolding packets_from writes_from apply_all
+from_writes g i kind zero [] st e = refl
+from_writes g i kind (suc k) [] st e = refl
+from_writes g i kind k (w ∷ ws) st e =
+    wrote_else (judge g kind k w) i st _ _
+    (λ z. from_writes g (suc i) (next_kind kind k w) (next_left k w) ws (apply_all st (write_at kind k w)) z ∙ sym (applied_append st (write_at kind k w) (writes_from (next_kind kind k w) (next_left k w) ws)))
     e
 
 -- that is the reader's answer, and the batch's writes
-pub answered : (g : Terms) (ws st : List ℕ) → answer_of (packetsFrom g 0 Setting 0 ws st) ≡ batchAnswer g ws
-unfolding batchAnswer
-answered g ws st = from-run g 0 Setting 0 ws st ∙ ap (answer (run g Setting 0 ws).reason) (omega arith)
+pub answered : (g : Terms) (ws st : List ℕ) → answer_of (packets_from g 0 Setting 0 ws st) ≡ batch_answer g ws
+unfolding batch_answer
+answered g ws st = from_run g 0 Setting 0 ws st ∙ ap (answer (run g Setting 0 ws).reason) (omega arith)
 
-pub wrote : (g : Terms) (ws st : List ℕ) → (packetsFrom g 0 Setting 0 ws st).reason ≡ 0 → (packetsFrom g 0 Setting 0 ws st).state ≡ applyAll st (writes_of ws)
+pub wrote : (g : Terms) (ws st : List ℕ) → (packets_from g 0 Setting 0 ws st).reason ≡ 0 → (packets_from g 0 Setting 0 ws st).state ≡ apply_all st (writes_of ws)
 unfolding writes_of
-wrote g ws st e = from-writes g 0 Setting 0 ws st e
+wrote g ws st e = from_writes g 0 Setting 0 ws st e
 
 -- ---- the state keeps its size
 
-length-writes : (st : List ℕ) (us : List Write) → length (applyAll st us) ≡ length st
-unfolding applyAll apply
-length-writes st [] = refl
-length-writes st (u ∷ us) = length-writes (apply st u) us ∙ simp length-set
+length_writes : (st : List ℕ) (us : List Write) → length (apply_all st us) ≡ length st
+unfolding apply_all apply
+length_writes st [] = refl
+length_writes st (u ∷ us) = length_writes (apply st u) us ∙ simp length-set
 
-pub same_size : (g : Terms) (i : ℕ) (kind : Kind) (k : ℕ) (ws st : List ℕ) → length (packetsFrom g i kind k ws st).state ≡ length st
-unfolding packetsFrom
+pub same_size : (g : Terms) (i : ℕ) (kind : Kind) (k : ℕ) (ws st : List ℕ) → length (packets_from g i kind k ws st).state ≡ length st
+unfolding packets_from
 same_size g i kind zero [] st = refl
 same_size g i kind (suc k) [] st = refl
 same_size g i kind k (w ∷ ws) st =
-    left-else (λ l. length l ≡ length st) (judge g kind k w) i st _ refl
-    (same_size g (suc i) (nextKind kind k w) (nextLeft k w) ws (applyAll st (writeAt kind k w)) ∙ length-writes st (writeAt kind k w))
+    left_else (λ l. length l ≡ length st) (judge g kind k w) i st _ refl
+    (same_size g (suc i) (next_kind kind k w) (next_left k w) ws (apply_all st (write_at kind k w)) ∙ length_writes st (write_at kind k w))

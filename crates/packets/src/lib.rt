@@ -5,8 +5,8 @@ ghost use Rattle.meaning.specs.declared.Kind.TheVariants as kinds;
 ghost use Rattle.meaning.specs.Words.{count, words_of};
 ghost use Rattle.meaning.specs.Grants.{Terms};
 ghost use Rattle.grants.specs.Kept.{Bounded, Keeps};
-ghost use Rattle.bodies.specs.Passes.{answer_of, bodyFrom, Places};
-ghost use Rattle.packets.specs.Packets.{headed, packetFrom, packetsFrom};
+ghost use Rattle.bodies.specs.Passes.{answer_of, body_from, Places};
+ghost use Rattle.packets.specs.Packets.{headed, packet_from, packets_from};
 
 use grants::{Bounds, Numbers, Spans};
 use headers::{Group, Header};
@@ -16,8 +16,8 @@ use meaning::{Answer, BAD_SETTING, ENDS_INSIDE, SUCCESS, State};
 fn read_lone(batch: &[u8], at: usize, end: usize) -> Answer
     requires places { Places at end batch.now }
     requires lone { end ≤ at + 1 }
-    ensures answer { (g : Terms) (st : List ℕ) → result ≡ answer_of (bodyFrom g at kinds.Setting (slice at end (words_of batch.now)) st) }
-    ensures state { (g : Terms) (st : List ℕ) → st ≡ (bodyFrom g at kinds.Setting (slice at end (words_of batch.now)) st).state }
+    ensures answer { (g : Terms) (st : List ℕ) → result ≡ answer_of (body_from g at kinds.Setting (slice at end (words_of batch.now)) st) }
+    ensures state { (g : Terms) (st : List ℕ) → st ≡ (body_from g at kinds.Setting (slice at end (words_of batch.now)) st).state }
 {
     if at == end {
         return Answer {
@@ -52,8 +52,8 @@ fn read_3d(
 ) -> Answer
     requires places { Places at end batch.now }
     requires bounded { Bounded bounds.now }
-    ensures answer { (g : Terms) → Keeps g starts.now lasts.now bounds.now → result ≡ answer_of (bodyFrom g at kinds.Setting (slice at end (words_of batch.now)) state.old) }
-    ensures state { (g : Terms) → Keeps g starts.now lasts.now bounds.now → state.new ≡ (bodyFrom g at kinds.Setting (slice at end (words_of batch.now)) state.old).state }
+    ensures answer { (g : Terms) → Keeps g starts.now lasts.now bounds.now → result ≡ answer_of (body_from g at kinds.Setting (slice at end (words_of batch.now)) state.old) }
+    ensures state { (g : Terms) → Keeps g starts.now lasts.now bounds.now → state.new ≡ (body_from g at kinds.Setting (slice at end (words_of batch.now)) state.old).state }
 {
     if end <= at + 1 {
         return read_lone(batch, at, end);
@@ -145,8 +145,8 @@ pub fn read_packet(
 ) -> Answer
     requires header { at < length batch.now / 4 }
     requires bounded { Bounded bounds.now }
-    ensures answer { (g : Terms) → Keeps g starts.now lasts.now bounds.now → result ≡ answer_of (packetFrom g at (drop at (words_of batch.now)) state.old) }
-    ensures state { (g : Terms) → Keeps g starts.now lasts.now bounds.now → state.new ≡ (packetFrom g at (drop at (words_of batch.now)) state.old).state }
+    ensures answer { (g : Terms) → Keeps g starts.now lasts.now bounds.now → result ≡ answer_of (packet_from g at (drop at (words_of batch.now)) state.old) }
+    ensures state { (g : Terms) → Keeps g starts.now lasts.now bounds.now → state.new ≡ (packet_from g at (drop at (words_of batch.now)) state.old).state }
     ensures ahead { result.reason ≡ 0 → result.place ≡ at + 1 + count (get_or (words_of batch.now) at 0) }
 {
     let header = words::word(batch, at);
@@ -175,8 +175,8 @@ pub fn read_packets(
     state: &mut State,
 ) -> Answer
     requires bounded { Bounded bounds.now }
-    ensures answer { (g : Terms) → Keeps g starts.now lasts.now bounds.now → result ≡ answer_of (packetsFrom g 0 kinds.Setting 0 (words_of batch.now) state.old) }
-    ensures state { (g : Terms) → Keeps g starts.now lasts.now bounds.now → state.new ≡ (packetsFrom g 0 kinds.Setting 0 (words_of batch.now) state.old).state }
+    ensures answer { (g : Terms) → Keeps g starts.now lasts.now bounds.now → result ≡ answer_of (packets_from g 0 kinds.Setting 0 (words_of batch.now) state.old) }
+    ensures state { (g : Terms) → Keeps g starts.now lasts.now bounds.now → state.new ≡ (packets_from g 0 kinds.Setting 0 (words_of batch.now) state.old).state }
 {
     let words = batch.len() / 4;
     let mut at = 0;

@@ -2,11 +2,11 @@
 // of the state whose two marks are cleared: those that have come back tell what it wrote, and no flag goes through the loops.
 ghost use Rattle.std.specs.Prelude.{◌≡◌, true, ◌&&◌, ◌||◌, ◌≤◌, ltb, eqb, length};
 ghost use Rattle.meaning.specs.Words.{words_of};
-ghost use Rattle.meaning.specs.Grants.{mostGrants};
-ghost use Rattle.meaning.specs.State.{stateWords};
-ghost use Rattle.meaning.specs.Pair.{memoryNamed};
+ghost use Rattle.meaning.specs.Grants.{most_grants};
+ghost use Rattle.meaning.specs.State.{state_words};
+ghost use Rattle.meaning.specs.Pair.{memory_named};
 ghost use Rattle.pair.specs.Marks.{back, restored};
-ghost use Rattle.pair.specs.Judged.{pair_of, whichPair, fineIn, keptIn, KnownLocal};
+ghost use Rattle.pair.specs.Judged.{pair_of, which_pair, fine_in, kept_in, KnownLocal};
 
 use grants::{Numbers, Part, Spans};
 use meaning::{CELLS, Cell, LOCATION_CELL, Memory, State, TARGET_CELL, Which};
@@ -22,7 +22,7 @@ pub struct Pair {
 
 // The pair of a state.
 fn pair_of(state: &[u8]) -> Pair
-    requires whole { length (words_of state.now) ≡ stateWords }
+    requires whole { length (words_of state.now) ≡ state_words }
     ensures pair { result ≡ pair_of (words_of state.now) }
 {
     Pair {
@@ -35,7 +35,7 @@ fn pair_of(state: &[u8]) -> Pair
 
 // The memory that a location names: its bits 21:20, and 0 where the cell is not marked.
 fn memory(mark: u32, location: u32) -> u32
-    ensures memory { result ≡ memoryNamed mark location }
+    ensures memory { result ≡ memory_named mark location }
 {
     if mark == 0 {
         return 0;
@@ -46,8 +46,8 @@ fn memory(mark: u32, location: u32) -> u32
 // The grant that admits the target's address in its memory. No grant ends above 2^32, where the address of a value of more than 24 bits would
 // lie. Here and below `starts`, `lasts` and `numbers` are the grants as they are kept, and `part` those of the target.
 fn which_of(pair: Pair, starts: &Spans, lasts: &Spans, numbers: &Numbers, part: Part) -> Which
-    requires inside { part.to ≤ mostGrants }
-    ensures which { result ≡ whichPair starts.now lasts.now numbers.now part pair }
+    requires inside { part.to ≤ most_grants }
+    ensures which { result ≡ which_pair starts.now lasts.now numbers.now part pair }
 {
     let value = pair.target;
     if 0xffffff < value {
@@ -60,8 +60,8 @@ fn which_of(pair: Pair, starts: &Spans, lasts: &Spans, numbers: &Numbers, part: 
 
 // Cell 1 is not marked, or its address is granted in the memory that cell 2 names.
 fn fine_of(pair: Pair, starts: &Spans, lasts: &Spans, numbers: &Numbers, part: Part) -> bool
-    requires inside { part.to ≤ mostGrants }
-    ensures fine { result ≡ fineIn starts.now lasts.now numbers.now part pair }
+    requires inside { part.to ≤ most_grants }
+    ensures fine { result ≡ fine_in starts.now lasts.now numbers.now part pair }
 {
     if pair.marked == 0 {
         return true;
@@ -76,7 +76,7 @@ fn fine_of(pair: Pair, starts: &Spans, lasts: &Spans, numbers: &Numbers, part: P
 // An address that is known to be granted in memory 0 needs no second look if it is there that it lies. `mark` is 0 where there is none that
 // is known. The memory is made out last, where it is asked.
 fn settled(known: bool, mark: u32, located: u32, location: u32) -> bool
-    ensures settled { result ≡ (known && (ltb 0 mark && eqb (memoryNamed located location) 0)) }
+    ensures settled { result ≡ (known && (ltb 0 mark && eqb (memory_named located location) 0)) }
 {
     if !known {
         return false;
@@ -89,9 +89,9 @@ fn settled(known: bool, mark: u32, located: u32, location: u32) -> bool
 
 // The same two for a state.
 pub fn which(state: &[u8], starts: &Spans, lasts: &Spans, numbers: &Numbers, part: Part) -> Which
-    requires whole { length (words_of state.now) ≡ stateWords }
-    requires inside { part.to ≤ mostGrants }
-    ensures which { result ≡ whichPair starts.now lasts.now numbers.now part (pair_of (words_of state.now)) }
+    requires whole { length (words_of state.now) ≡ state_words }
+    requires inside { part.to ≤ most_grants }
+    ensures which { result ≡ which_pair starts.now lasts.now numbers.now part (pair_of (words_of state.now)) }
 {
     which_of(pair_of(state), starts, lasts, numbers, part)
 }
@@ -105,10 +105,10 @@ pub fn fine(
     part: Part,
     known: bool,
 ) -> bool
-    requires whole { length (words_of state.now) ≡ stateWords }
-    requires inside { part.to ≤ mostGrants }
+    requires whole { length (words_of state.now) ≡ state_words }
+    requires inside { part.to ≤ most_grants }
     requires known { known ≡ true → KnownLocal starts.now lasts.now numbers.now part (words_of state.now) }
-    ensures fine { result ≡ fineIn starts.now lasts.now numbers.now part (pair_of (words_of state.now)) }
+    ensures fine { result ≡ fine_in starts.now lasts.now numbers.now part (pair_of (words_of state.now)) }
 {
     let pair = pair_of(state);
     if settled(known, pair.marked, pair.located, pair.location) {
@@ -150,10 +150,10 @@ pub fn kept(
     part: Part,
     known: bool,
 ) -> bool
-    requires whole { length own.old ≡ stateWords }
-    requires inside { part.to ≤ mostGrants }
+    requires whole { length own.old ≡ state_words }
+    requires inside { part.to ≤ most_grants }
     requires known { known ≡ true → KnownLocal starts.now lasts.now numbers.now part own.old }
-    ensures kept { result ≡ keptIn starts.now lasts.now numbers.now part target location own.old }
+    ensures kept { result ≡ kept_in starts.now lasts.now numbers.now part target location own.old }
     ensures own { own.new ≡ restored target location own.old }
 {
     let t = own[CELLS + TARGET_CELL];

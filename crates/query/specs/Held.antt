@@ -4,6 +4,6 @@ use Rattle.std.specs.Prelude.{ℕ, zero, suc}
 use Rattle.meaning.specs.Registers.{Content, nothing, scaled}
 
 -- 0 where it holds none
-abbrev pub heldAs : ℕ → ℕ → Content
-heldAs zero v = nothing
-heldAs (suc n) v = scaled (suc n) v
+abbrev pub held_as : ℕ → ℕ → Content
+held_as zero v = nothing
+held_as (suc n) v = scaled (suc n) v

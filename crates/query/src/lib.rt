@@ -2,13 +2,13 @@
 ghost use Rattle.std.specs.Prelude.{◌≡◌, ◌≢◌, List, ℕ, ◌<◌, T, length};
 ghost use Rattle.meaning.specs.declared.Memory.TheVariants.{Either};
 ghost use Rattle.meaning.specs.Words.{words_of};
-ghost use Rattle.meaning.specs.Registers.{registerAt};
-ghost use Rattle.meaning.specs.Grants.{grantsFine, termsOf};
-ghost use Rattle.meaning.specs.State.{stateWords};
+ghost use Rattle.meaning.specs.Registers.{register_at};
+ghost use Rattle.meaning.specs.Grants.{grants_fine, terms_of};
+ghost use Rattle.meaning.specs.State.{state_words};
 ghost use Rattle.meaning.specs.Answers.{answer};
-ghost use Rattle.meaning.specs.Query.{whichStored, whichAt, place_of, queryAnswer};
+ghost use Rattle.meaning.specs.Query.{which_stored, which_at, place_of, query_answer};
 ghost use Rattle.grants.specs.Kept.{Bounded, Names};
-ghost use Rattle.query.specs.Held.{heldAs};
+ghost use Rattle.query.specs.Held.{held_as};
 
 use grants::{BOUNDS, Bounds, Numbers, Spans};
 use meaning::{
@@ -18,7 +18,7 @@ use meaning::{
 // The role of the scaler whose address the register of a cell holds; 0 where it holds none. Cell 1, which holds the target's, is asked about
 // elsewhere.
 fn role_of(cell: Cell) -> usize
-    ensures role { cell.0 ≢ 1 → (v : ℕ) → (registerAt cell).holds v ≡ heldAs result v }
+    ensures role { cell.0 ≢ 1 → (v : ℕ) → (register_at cell).holds v ≡ held_as result v }
     ensures low { result < 4 }
 {
     let number = cell.0;
@@ -40,7 +40,7 @@ fn which_stored(
     bounds: &Bounds,
 ) -> Which
     requires bounded { Bounded bounds.now }
-    ensures stored { (ws : List ℕ) → Names (termsOf ws) starts.now lasts.now numbers.now bounds.now → cell.0 ≢ 1 → result ≡ whichStored (termsOf ws) Either cell value }
+    ensures stored { (ws : List ℕ) → Names (terms_of ws) starts.now lasts.now numbers.now bounds.now → cell.0 ≢ 1 → result ≡ which_stored (terms_of ws) Either cell value }
 {
     let role = role_of(cell);
     if role == 0 {
@@ -60,9 +60,9 @@ fn which_at(
     numbers: &Numbers,
     bounds: &Bounds,
 ) -> Which
-    requires whole { length (words_of state.now) ≡ stateWords }
+    requires whole { length (words_of state.now) ≡ state_words }
     requires bounded { Bounded bounds.now }
-    ensures at { (ws : List ℕ) → T (grantsFine ws) → Names (termsOf ws) starts.now lasts.now numbers.now bounds.now → result ≡ whichAt (termsOf ws) (words_of state.now) cell }
+    ensures at { (ws : List ℕ) → T (grants_fine ws) → Names (terms_of ws) starts.now lasts.now numbers.now bounds.now → result ≡ which_at (terms_of ws) (words_of state.now) cell }
 {
     if CELLS <= cell.0 {
         return Which::Nobody;
@@ -98,7 +98,7 @@ fn refused(reason: u32) -> Answer
 // Which grant admits the address in a cell: 1 if the state is not well-formed, 2 if the grant list breaks its rules; else 0 at the number of
 // the grant, or at 64 where there is none. Bytes past the last whole word of a buffer count for nothing.
 pub fn which_grant(state: &[u8], grants: &[u8], cell: Cell) -> Answer
-    ensures answer { result ≡ queryAnswer (words_of state.now) (words_of grants.now) cell }
+    ensures answer { result ≡ query_answer (words_of state.now) (words_of grants.now) cell }
 {
     if !states::well_formed(state) {
         return refused(BAD_STATE);

@@ -2,9 +2,9 @@
 ghost use Rattle.std.specs.Prelude.{◌≡◌, length};
 ghost use Rattle.laws.specs.Lists.{over};
 ghost use Rattle.meaning.specs.Words.{words_of, bytes_of};
-ghost use Rattle.meaning.specs.State.{stateWords};
+ghost use Rattle.meaning.specs.State.{state_words};
 ghost use Rattle.meaning.specs.Answers.{answer, settle};
-ghost use Rattle.meaning.specs.Reader.{readAnswer, readLeaves};
+ghost use Rattle.meaning.specs.Reader.{read_answer, read_leaves};
 ghost use Rattle.pair.specs.Marks.{cleared};
 
 use grants::{BOUNDS, IN_MEMORY_1};
@@ -22,7 +22,7 @@ fn refused(reason: u32) -> Answer
 
 // Clears the marks of the pair, so that those that come back tell what the batch wrote.
 fn clear_pair(own: &mut State)
-    requires whole { length own.old ≡ stateWords }
+    requires whole { length own.old ≡ state_words }
     ensures cleared { own.new ≡ cleared own.old }
 {
     own[CELLS + TARGET_CELL] = 0;
@@ -33,8 +33,8 @@ fn clear_pair(own: &mut State)
 // 14 if the batch does not keep the pair; else 0 and the batch's length in words. The state is changed only if the whole batch is accepted;
 // bytes past the last whole word of a buffer count for nothing.
 pub fn read(batch: &[u8], grants: &[u8], state: &mut [u8]) -> Answer
-    ensures answer { result ≡ readAnswer (words_of batch.now) (words_of grants.now) (words_of state.old) }
-    ensures bytes { state.new ≡ settle result (over (bytes_of (readLeaves (words_of batch.now) (words_of grants.now) (words_of state.old))) state.old) state.old }
+    ensures answer { result ≡ read_answer (words_of batch.now) (words_of grants.now) (words_of state.old) }
+    ensures bytes { state.new ≡ settle result (over (bytes_of (read_leaves (words_of batch.now) (words_of grants.now) (words_of state.old))) state.old) state.old }
 {
     if !states::well_formed(state) {
         return refused(BAD_STATE);

@@ -1,4 +1,4 @@
--- The lookup by type, sub-type and sub-address as a tree of tests: the table's groups, one law for each row of them.
+-- The lookup by type, sub_type and sub_address as a tree of tests: the table's groups, one law for each row of them.
 -- Assumes nothing.
 use mathlib.Core.Path.{◌≡◌, refl, sym, ap, ◌∙◌}
 use mathlib.Core.Bool.{Bool, true, false, ◌&&◌, cond}
@@ -15,104 +15,104 @@ use Rattle.meaning.specs.declared.SubAddress.{SubAddress}
 use Rattle.meaning.specs.declared.Found.{Found}
 use Rattle.meaning.specs.declared.Found.TheVariants.{At, Missing}
 use Rattle.registers.specs.Names.{ranged}
-use Rattle.meaning.specs.Registers.{cell, Row, Group, Section, of3D, targetGroup, stage, sample, stageSection, sampleSection, sectionsVideo, sections, find, findAmong, find3D}
+use Rattle.meaning.specs.Registers.{cell, Row, Group, Section, of_3d, target_group, stage, sample, stage_section, sample_section, sections_video, sections, find, find_among, find_3d}
 
--- the cell of a sub-address among rows
+-- the cell of a sub_address among rows
 abbrev pub among : SubAddress → List (Row SubAddress) → Found
 among a rs = find (λ n. eqb a.0 n.0) rs
 
--- the rows of a type and sub-type
+-- the rows of a type and sub_type
 unfoldable pub rows_of : ℕ → ℕ → List (Row SubAddress)
 rows_of t u =
-    cond (eqb t 0x01) (cond (eqb u 0x00) targetGroup.rows [])
+    cond (eqb t 0x01) (cond (eqb u 0x00) target_group.rows [])
     (cond (eqb t 0x02) (cond (leb u 0x0F) (stage u).rows (cond (within 0x20 0x2F u) (sample (u - 0x20)).rows [])) [])
 
 -- groups of one type whose sub-types are numbered from K on
-module _ (f : ℕ → Group) (T K : ℕ) (is : (n : ℕ) → ((f n).type ≡ T) × ((f n).subType ≡ K + n)) (t u : ℕ) (a : SubAddress) (ss : List Section) where
+module _ (f : ℕ → Group) (T K : ℕ) (is : (n : ℕ) → ((f n).type ≡ T) × ((f n).sub_type ≡ K + n)) (t u : ℕ) (a : SubAddress) (ss : List Section) where
   abbrev at : ℕ → Section
-  at k = of3D (f k)
+  at k = of_3d (f k)
 
   abbrev next : ℕ → List Section → Found
-  next i rest = cond (eqb t (f i).type && eqb u (f i).subType) (among a (f i).rows) (findAmong t u a rest)
+  next i rest = cond (eqb t (f i).type && eqb u (f i).sub_type) (among a (f i).rows) (find_among t u a rest)
 
-  -- the one that has the sub-type answers
-  hit : t ≡ T → (j : ℕ) → u ≡ K + j → (i n : ℕ) → i ≤ j → j < i + n → findAmong t u a (map at (from i n) ++ ss) ≡ among a (f j).rows
-  unfolding findAmong from
+  -- the one that has the sub_type answers
+  hit : t ≡ T → (j : ℕ) → u ≡ K + j → (i n : ℕ) → i ≤ j → j < i + n → find_among t u a (map at (from i n) ++ ss) ≡ among a (f j).rows
+  unfolding find_among from
   hit p j q i zero l h = absurd (omega arith)
   hit p j q i (suc n) l h =
       elim (ℕ_discrete i j) [
-        | yes e ↦ rw (sym e, eq-eqb t (f i).type (p ∙ sym (is i).0), eq-eqb u (f i).subType (q ∙ ap (λ (k : ℕ). K + k) (sym e) ∙ sym (is i).1))
-        | no e ↦ rw (ne_eqb u (f i).subType (λ x. e (omega (arith, (is i).1))), eq-eqb t (f i).type (p ∙ sym (is i).0)) (hit p j q (suc i) n (omega arith) (omega arith))
+        | yes e ↦ rw (sym e, eq-eqb t (f i).type (p ∙ sym (is i).0), eq-eqb u (f i).sub_type (q ∙ ap (λ (k : ℕ). K + k) (sym e) ∙ sym (is i).1))
+        | no e ↦ rw (ne_eqb u (f i).sub_type (λ x. e (omega (arith, (is i).1))), eq-eqb t (f i).type (p ∙ sym (is i).0)) (hit p j q (suc i) n (omega arith) (omega arith))
       ]
 
   -- where none has it, the groups after them do
-  miss : (i n : ℕ) → ((j : ℕ) → i ≤ j → j < i + n → t ≡ T → u ≡ K + j → ⊥) → findAmong t u a (map at (from i n) ++ ss) ≡ findAmong t u a ss
-  unfolding findAmong from
+  miss : (i n : ℕ) → ((j : ℕ) → i ≤ j → j < i + n → t ≡ T → u ≡ K + j → ⊥) → find_among t u a (map at (from i n) ++ ss) ≡ find_among t u a ss
+  unfolding find_among from
   miss i zero none = refl
   miss i (suc n) none =
       let more = miss (suc i) n (λ j l h. none j (omega arith) (omega arith)) in
       elim (ℕ_discrete t (f i).type) [
-        | yes e ↦ rw (ne_eqb u (f i).subType (λ x. none i (omega arith) (omega arith) (e ∙ (is i).0) (x ∙ (is i).1)), eq-eqb t (f i).type e) more
+        | yes e ↦ rw (ne_eqb u (f i).sub_type (λ x. none i (omega arith) (omega arith) (e ∙ (is i).0) (x ∙ (is i).1)), eq-eqb t (f i).type e) more
         | no e ↦ rw (ne_eqb t (f i).type e) more
       ]
 
-stage_is : (n : ℕ) → ((stage n).type ≡ 0x02) × ((stage n).subType ≡ 0x00 + n)
+stage_is : (n : ℕ) → ((stage n).type ≡ 0x02) × ((stage n).sub_type ≡ 0x00 + n)
 unfolding stage
 stage_is n = (refl, refl)
 
-sample-is : (n : ℕ) → ((sample n).type ≡ 0x02) × ((sample n).subType ≡ 0x20 + n)
+sample_is : (n : ℕ) → ((sample n).type ≡ 0x02) × ((sample n).sub_type ≡ 0x20 + n)
 unfolding sample
-sample-is n = (refl, refl)
+sample_is n = (refl, refl)
 
 abbrev samples : List Section
-samples = map sampleSection (from 0 16) ++ sectionsVideo
+samples = map sample_section (from 0 16) ++ sections_video
 
 -- past the target's group, the stages and then the samples are asked; no lookup of a 3D register finds anything among the video rows
 module _ (t u : ℕ) (a : SubAddress) where
   abbrev rest : Found
-  rest = findAmong t u a (map stageSection (from 0 16) ++ samples)
+  rest = find_among t u a (map stage_section (from 0 16) ++ samples)
 
-  first : find3D t u a ≡ cond (eqb t 0x01 && eqb u 0x00) (among a targetGroup.rows) rest
-  unfolding find3D sections targetGroup findAmong
+  first : find_3d t u a ≡ cond (eqb t 0x01 && eqb u 0x00) (among a target_group.rows) rest
+  unfolding find_3d sections target_group find_among
   first =
-      ap (λ (ss : List Section). cond (eqb t 0x01 && eqb u 0x00) (among a targetGroup.rows) (findAmong t u a ss))
-      (append_assoc (map stageSection (from 0 16)) (map sampleSection (from 0 16)) sectionsVideo)
+      ap (λ (ss : List Section). cond (eqb t 0x01 && eqb u 0x00) (among a target_group.rows) (find_among t u a ss))
+      (append_assoc (map stage_section (from 0 16)) (map sample_section (from 0 16)) sections_video)
 
-  none_left : findAmong t u a sectionsVideo ≡ Missing
-  unfolding findAmong
+  none_left : find_among t u a sections_video ≡ Missing
+  unfolding find_among
   none_left = refl
 
-  no-stage : ((j : ℕ) → j < 16 → t ≡ 0x02 → u ≡ j → ⊥) → rest ≡ findAmong t u a samples
-  no-stage no-j = miss stage 0x02 0x00 stage_is t u a samples 0 16 (λ j l h p q. no-j j h p (omega arith))
+  no_stage : ((j : ℕ) → j < 16 → t ≡ 0x02 → u ≡ j → ⊥) → rest ≡ find_among t u a samples
+  no_stage no_j = miss stage 0x02 0x00 stage_is t u a samples 0 16 (λ j l h p q. no_j j h p (omega arith))
 
-  no-sample : ((j : ℕ) → j < 16 → t ≡ 0x02 → u ≡ 0x20 + j → ⊥) → findAmong t u a samples ≡ Missing
-  no-sample no-j = miss sample 0x02 0x20 sample-is t u a sectionsVideo 0 16 (λ j l h p q. no-j j h p q) ∙ none_left
+  no_sample : ((j : ℕ) → j < 16 → t ≡ 0x02 → u ≡ 0x20 + j → ⊥) → find_among t u a samples ≡ Missing
+  no_sample no_j = miss sample 0x02 0x20 sample_is t u a sections_video 0 16 (λ j l h p q. no_j j h p q) ∙ none_left
 
   -- a type that has neither
   neither : (t ≡ 0x02 → ⊥) → rest ≡ Missing
-  neither n = no-stage (λ j h p q. n p) ∙ no-sample (λ j h p q. n p)
+  neither n = no_stage (λ j h p q. n p) ∙ no_sample (λ j h p q. n p)
 
   nothing : among a [] ≡ Missing
   unfolding find
   nothing = refl
 
-  by-sub-type : t ≡ 0x02 → rest ≡ among a (cond (leb u 0x0F) (stage u).rows (cond (within 0x20 0x2F u) (sample (u - 0x20)).rows []))
-  by-sub-type p =
+  by_sub_type : t ≡ 0x02 → rest ≡ among a (cond (leb u 0x0F) (stage u).rows (cond (within 0x20 0x2F u) (sample (u - 0x20)).rows []))
+  by_sub_type p =
       elim (dec_lt 0x0F u) [
         | no l ↦ rw (le-leb u 0x0F (omega arith)) (hit stage 0x02 0x00 stage_is t u a samples p u (omega arith) 0 16 (omega arith) (omega arith))
-        | yes l ↦ rw (lt-leb u 0x0F l) (no-stage (λ j h q e. omega arith)
+        | yes l ↦ rw (lt-leb u 0x0F l) (no_stage (λ j h q e. omega arith)
             ∙ elim (dec_lt u 0x20) [
-              | yes m ↦ rw (lt-leb 0x20 u m, nothing) (no-sample (λ j h q e. omega arith))
+              | yes m ↦ rw (lt-leb 0x20 u m, nothing) (no_sample (λ j h q e. omega arith))
               | no m ↦ elim (dec_lt 0x2F u) [
-                | yes n ↦ rw (le-leb 0x20 u (omega arith), lt-leb u 0x2F n, nothing) (no-sample (λ j h q e. omega arith))
+                | yes n ↦ rw (le-leb 0x20 u (omega arith), lt-leb u 0x2F n, nothing) (no_sample (λ j h q e. omega arith))
                 | no n ↦ rw (le-leb 0x20 u (omega arith), le-leb u 0x2F (omega arith))
-                    (hit sample 0x02 0x20 sample-is t u a sectionsVideo p (u - 0x20) (omega arith) 0 16 (omega arith) (omega arith))
+                    (hit sample 0x02 0x20 sample_is t u a sections_video p (u - 0x20) (omega arith) 0 16 (omega arith) (omega arith))
               ]
             ])
       ]
 
   -- R19 "The name of a 3D register is its type, its sub-type and its sub-address, all three"
-  pub by_rows : find3D t u a ≡ among a (rows_of t u)
+  pub by_rows : find_3d t u a ≡ among a (rows_of t u)
   unfolding rows_of
   by_rows =
       first
@@ -122,7 +122,7 @@ module _ (t u : ℕ) (a : SubAddress) where
           | no f ↦ rw (eq-eqb t 0x01 e, ne_eqb u 0x00 f, nothing) (neither (λ p. omega arith))
         ]
         | no e ↦ elim (ℕ_discrete t 0x02) [
-          | yes f ↦ rw (ne_eqb t 0x01 e, eq-eqb t 0x02 f) (by-sub-type f)
+          | yes f ↦ rw (ne_eqb t 0x01 e, eq-eqb t 0x02 f) (by_sub_type f)
           | no f ↦ rw (ne_eqb t 0x01 e, ne_eqb t 0x02 f, nothing) (neither f)
         ]
       ]
@@ -158,44 +158,44 @@ in_order a lo c (r ∷ rs) o =
     ]
 
 -- the lookup as a tree of tests
-unfoldable pub tree3D : ℕ → ℕ → ℕ → Found
-tree3D t u a =
+unfoldable pub tree_3d : ℕ → ℕ → ℕ → Found
+tree_3d t u a =
     cond (eqb t 0x01) (cond (eqb u 0x00) (cond (eqb a 0x3F) (At (cell 0)) (ranged 0x50 3 1 a)) Missing)
     (cond (eqb t 0x02) (cond (leb u 0x0F) (ranged 0x50 2 (4 + 2 * u) a) (cond (within 0x20 0x2F u) (ranged 0x30 3 (36 + 3 * (u - 0x20)) a) Missing)) Missing)
 
 -- a lookup goes into the branches of a test
-among-cond : (a : SubAddress) (b : Bool) (rs ss : List (Row SubAddress)) → among a (cond b rs ss) ≡ cond b (among a rs) (among a ss)
-among-cond a true rs ss = refl
-among-cond a false rs ss = refl
+among_cond : (a : SubAddress) (b : Bool) (rs ss : List (Row SubAddress)) → among a (cond b rs ss) ≡ cond b (among a rs) (among a ss)
+among_cond a true rs ss = refl
+among_cond a false rs ss = refl
 
 -- the rows after the first
 abbrev others : List (Row SubAddress) → List (Row SubAddress)
 others [] = []
 others (r ∷ rs) = rs
 
-target-rows : (a : SubAddress) → among a targetGroup.rows ≡ cond (eqb a.0 0x3F) (At (cell 0)) (ranged 0x50 3 1 a.0)
-unfolding targetGroup find
-target-rows a = ap (cond (eqb a.0 0x3F) (At (cell 0))) (in_order a 0x50 1 (others targetGroup.rows) (refl, refl, (refl, refl, (refl, refl, tt))))
+target_rows : (a : SubAddress) → among a target_group.rows ≡ cond (eqb a.0 0x3F) (At (cell 0)) (ranged 0x50 3 1 a.0)
+unfolding target_group find
+target_rows a = ap (cond (eqb a.0 0x3F) (At (cell 0))) (in_order a 0x50 1 (others target_group.rows) (refl, refl, (refl, refl, (refl, refl, tt))))
 
-stage-rows : (n : ℕ) (a : SubAddress) → among a (stage n).rows ≡ ranged 0x50 2 (4 + 2 * n) a.0
+stage_rows : (n : ℕ) (a : SubAddress) → among a (stage n).rows ≡ ranged 0x50 2 (4 + 2 * n) a.0
 unfolding stage
-stage-rows n a = in_order a 0x50 (4 + 2 * n) _ (refl, refl, (refl, omega arith, tt))
+stage_rows n a = in_order a 0x50 (4 + 2 * n) _ (refl, refl, (refl, omega arith, tt))
 
-sample-rows : (n : ℕ) (a : SubAddress) → among a (sample n).rows ≡ ranged 0x30 3 (36 + 3 * n) a.0
+sample_rows : (n : ℕ) (a : SubAddress) → among a (sample n).rows ≡ ranged 0x30 3 (36 + 3 * n) a.0
 unfolding sample
-sample-rows n a = in_order a 0x30 (36 + 3 * n) _ (refl, refl, (refl, omega arith, (refl, omega arith, tt)))
+sample_rows n a = in_order a 0x30 (36 + 3 * n) _ (refl, refl, (refl, omega arith, (refl, omega arith, tt)))
 
-pub by-tree : (t u : ℕ) (a : SubAddress) → find3D t u a ≡ tree3D t u a.0
-unfolding tree3D rows_of
-by-tree t u a =
+pub by_tree : (t u : ℕ) (a : SubAddress) → find_3d t u a ≡ tree_3d t u a.0
+unfolding tree_3d rows_of
+by_tree t u a =
     by_rows t u a ∙ rw (
-      among-cond a (eqb t 0x01),
-      among-cond a (eqb u 0x00),
-      among-cond a (eqb t 0x02),
-      among-cond a (leb u 0x0F),
-      among-cond a (within 0x20 0x2F u),
-      target-rows a,
-      stage-rows u a,
-      sample-rows (u - 0x20) a,
+      among_cond a (eqb t 0x01),
+      among_cond a (eqb u 0x00),
+      among_cond a (eqb t 0x02),
+      among_cond a (leb u 0x0F),
+      among_cond a (within 0x20 0x2F u),
+      target_rows a,
+      stage_rows u a,
+      sample_rows (u - 0x20) a,
       nothing t u a,
     )

@@ -1,7 +1,7 @@
 // The register table: the name that a cell has.
 ghost use Rattle.std.specs.Prelude.{◌≡◌, ◌<◌, ◌≤◌};
-ghost use Rattle.meaning.specs.Registers.{firstVideo, endVideo};
-ghost use Rattle.registers.specs.Names.{nameOf, offset_of};
+ghost use Rattle.meaning.specs.Registers.{first_video, end_video};
+ghost use Rattle.registers.specs.Names.{name_of, offset_of};
 
 use meaning::{Cell, SubAddress, VideoOffset};
 
@@ -15,8 +15,8 @@ pub struct Name {
 
 // The name of a 3D cell.
 pub fn name_of(cell: Cell) -> Name
-    requires cell { cell.0 < firstVideo }
-    ensures name { result ≡ nameOf cell }
+    requires cell { cell.0 < first_video }
+    ensures name { result ≡ name_of cell }
 {
     let c = cell.0;
     match c {
@@ -45,8 +45,8 @@ pub fn name_of(cell: Cell) -> Name
 
 // The offset of a video cell.
 pub fn offset_of(cell: Cell) -> VideoOffset
-    requires low { firstVideo ≤ cell.0 }
-    requires high { cell.0 < endVideo }
+    requires low { first_video ≤ cell.0 }
+    requires high { cell.0 < end_video }
     ensures offset { result ≡ offset_of cell }
 {
     let c = cell.0 as u32;

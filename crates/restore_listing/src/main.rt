@@ -2,8 +2,8 @@
 // as the C calls give them.
 ghost use Rattle.std.specs.Prelude.{◌≡◌, ◌+◌, ◌≤◌, length};
 ghost use Rattle.laws.specs.Lists.{over};
-ghost use Rattle.meaning.specs.Exported.{mostBytes};
-ghost use Rattle.restore_listing.specs.Restored.{numberBytes, rewritten, restored, mostRewritten, mostRestored};
+ghost use Rattle.meaning.specs.Exported.{most_bytes};
+ghost use Rattle.restore_listing.specs.Restored.{number_bytes, rewritten, restored, most_rewritten, most_restored};
 
 use meaning::{MOST_BYTES, MOST_WRITTEN, STATE_WORDS};
 
@@ -26,7 +26,7 @@ const OUTPUT_ROOM: usize = 2 * NUMBER + 4 * MOST_WRITTEN;
 
 // Where the array is made, so that no proof but this one has to look at 65,537 zeros.
 fn input_buffer() -> [u8; INPUT_ROOM]
-    ensures whole { mostBytes + 1 ≡ length result }
+    ensures whole { most_bytes + 1 ≡ length result }
 {
     [0; INPUT_ROOM]
 }
@@ -34,7 +34,7 @@ fn input_buffer() -> [u8; INPUT_ROOM]
 // Puts a number in front.
 fn put_number(out: &mut [u8], n: u64)
     requires room { 8 ≤ length out.old }
-    ensures put { out.new ≡ over (numberBytes n) out.old }
+    ensures put { out.new ≡ over (number_bytes n) out.old }
 {
     let mut left = n;
     let mut i = 0;
@@ -47,7 +47,7 @@ fn put_number(out: &mut [u8], n: u64)
 
 // What is written of a state: the writer's number, and the words behind it. Here and below the answer is how many bytes that is.
 fn put_batch(state: &[u8], out: &mut [u8]) -> usize
-    requires room { length out.old ≡ mostRewritten }
+    requires room { length out.old ≡ most_rewritten }
     ensures count { result ≡ length (rewritten state.now) }
     ensures bytes { out.new ≡ over (rewritten state.now) out.old }
 {
@@ -62,7 +62,7 @@ fn put_batch(state: &[u8], out: &mut [u8]) -> usize
 
 // What is written of a text.
 fn report(text: &[u8], out: &mut [u8]) -> usize
-    requires room { length out.old ≡ mostRestored }
+    requires room { length out.old ≡ most_restored }
     ensures count { result ≡ length (restored text.now) }
     ensures bytes { out.new ≡ over (restored text.now) out.old }
 {

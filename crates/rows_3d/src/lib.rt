@@ -1,10 +1,10 @@
 // What speaks against a value of a 3D register: a function for each row of the table; 0 where nothing does. Which register a word is for
 // is the callers' matter.
 ghost use Rattle.std.specs.Prelude.{◌≡◌, ℕ, ◌+◌, ◌*◌, ◌≤◌, ◌<◌, ◌^◌};
-ghost use Rattle.meaning.specs.Registers.{cell, registerAt};
-ghost use Rattle.meaning.specs.Grants.{Terms, mostGrants};
-ghost use Rattle.meaning.specs.Answers.{badValue, success};
-ghost use Rattle.meaning.specs.Reader.{unless, valueReason};
+ghost use Rattle.meaning.specs.Registers.{cell, register_at};
+ghost use Rattle.meaning.specs.Grants.{Terms, most_grants};
+ghost use Rattle.meaning.specs.Answers.{bad_value, success};
+ghost use Rattle.meaning.specs.Reader.{unless, value_reason};
 ghost use Rattle.grants.specs.Kept.{Granting};
 
 use grants::{Numbers, Part, Spans};
@@ -14,7 +14,7 @@ use sampling::{filters, levels, mapping};
 
 // 8 where the value rule is broken. It is asked once the mask has been: so no value is looked at twice.
 fn ruled_reason(obeyed: bool) -> u32
-    ensures reason { result ≡ unless obeyed badValue success }
+    ensures reason { result ≡ unless obeyed bad_value success }
 {
     if !obeyed {
         return BAD_VALUE;
@@ -24,7 +24,7 @@ fn ruled_reason(obeyed: bool) -> u32
 
 // 01.00.3F, cell 0.
 pub fn alpha_constants_reason(value: u32) -> u32
-    ensures reason { (g : Terms) → result ≡ valueReason g (registerAt (cell 0)) value }
+    ensures reason { (g : Terms) → result ≡ value_reason g (register_at (cell 0)) value }
 {
     if !must_be_clear(value, 0x800800) {
         return BIT_SET;
@@ -52,8 +52,8 @@ pub fn target_address_reason(
     part: Part,
 ) -> u32
     requires narrow { value < 2 ^ 24 }
-    requires inside { part.to ≤ mostGrants }
-    ensures reason { (g : Terms) → Granting g 1 starts.now lasts.now part → result ≡ valueReason g (registerAt (cell 1)) value }
+    requires inside { part.to ≤ most_grants }
+    ensures reason { (g : Terms) → Granting g 1 starts.now lasts.now part → result ≡ value_reason g (register_at (cell 1)) value }
 {
     let a = target_address(value);
     let found = grants::which(starts, lasts, numbers, part, Memory::Either, a);
@@ -65,7 +65,7 @@ pub fn target_address_reason(
 
 // 01.00.51, cell 2.
 pub fn location_reason(value: u32) -> u32
-    ensures reason { (g : Terms) → result ≡ valueReason g (registerAt (cell 2)) value }
+    ensures reason { (g : Terms) → result ≡ value_reason g (register_at (cell 2)) value }
 {
     if !must_be_clear(value, 0x0fffff) {
         return BIT_SET;
@@ -75,7 +75,7 @@ pub fn location_reason(value: u32) -> u32
 
 // 01.00.52, cell 3.
 pub fn format_reason(value: u32) -> u32
-    ensures reason { (g : Terms) → result ≡ valueReason g (registerAt (cell 3)) value }
+    ensures reason { (g : Terms) → result ≡ value_reason g (register_at (cell 3)) value }
 {
     if !must_be_clear(value, 0x006fff) {
         return BIT_SET;
@@ -85,7 +85,7 @@ pub fn format_reason(value: u32) -> u32
 
 // 02.0n.50 and .51, cells 4 to 35: two for each stage, and all of them alike.
 pub fn stage_reason(value: u32) -> u32
-    ensures reason { (g : Terms) (c : ℕ) → 4 ≤ c → c < 36 → result ≡ valueReason g (registerAt (cell c)) value }
+    ensures reason { (g : Terms) (c : ℕ) → 4 ≤ c → c < 36 → result ≡ value_reason g (register_at (cell c)) value }
 {
     if !must_be_clear(value, 0xff0000) {
         return BIT_SET;
@@ -95,7 +95,7 @@ pub fn stage_reason(value: u32) -> u32
 
 // 02.2n.30, cells 36+3n.
 pub fn levels_reason(value: u32) -> u32
-    ensures reason { (g : Terms) (n : ℕ) → n < 16 → result ≡ valueReason g (registerAt (cell (36 + 3 * n))) value }
+    ensures reason { (g : Terms) (n : ℕ) → n < 16 → result ≡ value_reason g (register_at (cell (36 + 3 * n))) value }
 {
     if !must_be_clear(value, 0xc00000) {
         return BIT_SET;
@@ -105,7 +105,7 @@ pub fn levels_reason(value: u32) -> u32
 
 // 02.2n.31, cells 37+3n.
 pub fn filters_reason(value: u32) -> u32
-    ensures reason { (g : Terms) (n : ℕ) → n < 16 → result ≡ valueReason g (registerAt (cell (37 + 3 * n))) value }
+    ensures reason { (g : Terms) (n : ℕ) → n < 16 → result ≡ value_reason g (register_at (cell (37 + 3 * n))) value }
 {
     if !must_be_clear(value, 0xe00000) {
         return BIT_SET;
@@ -115,7 +115,7 @@ pub fn filters_reason(value: u32) -> u32
 
 // 02.2n.32, cells 38+3n.
 pub fn mapping_reason(value: u32) -> u32
-    ensures reason { (g : Terms) (n : ℕ) → n < 16 → result ≡ valueReason g (registerAt (cell (38 + 3 * n))) value }
+    ensures reason { (g : Terms) (n : ℕ) → n < 16 → result ≡ value_reason g (register_at (cell (38 + 3 * n))) value }
 {
     if !must_be_clear(value, 0xc0fe00) {
         return BIT_SET;

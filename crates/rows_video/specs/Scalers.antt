@@ -1,7 +1,7 @@
 -- What the contracts say beside the table: the two scalers, and their registers that hold an address.
 -- Assumes nothing.
 use Rattle.std.specs.Prelude.{◌≡◌, ℕ, ◌+◌, ◌*◌, ◌<◌}
-use Rattle.meaning.specs.Registers.{Register, memoryLocation, scaled}
+use Rattle.meaning.specs.Registers.{Register, memory_location, scaled}
 
 -- a scaler: the cell of its first register, and the role of its addresses
 pub data Scaler : ℕ → ℕ → Type 0 where
@@ -13,5 +13,5 @@ abbrev pub IsScaler : ℕ → Type 0
 IsScaler c = (n : ℕ) × (n < 2) × (c ≡ 87 + 7 * n)
 
 -- a register with a mask that holds an address of the role
-abbrev pub addressRegister : ℕ → ℕ → Register
-addressRegister role m = record { width = 32; clear = m; values = memoryLocation; holds = scaled role }
+abbrev pub address_register : ℕ → ℕ → Register
+address_register role m = record { width = 32; clear = m; values = memory_location; holds = scaled role }

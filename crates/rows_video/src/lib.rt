@@ -3,12 +3,12 @@
 ghost use Rattle.std.specs.Prelude.{◌≡◌, ℕ, ◌+◌, ◌*◌, ◌≤◌, ◌<◌, eqb};
 ghost use Rattle.std.specs.Int.Bits.{bit_and};
 ghost use Rattle.meaning.specs.Words.{bits};
-ghost use Rattle.meaning.specs.Registers.{cell, registerAt};
-ghost use Rattle.meaning.specs.Grants.{Terms, mostGrants};
-ghost use Rattle.meaning.specs.Answers.{bitSet, success};
-ghost use Rattle.meaning.specs.Reader.{unless, valueReason};
+ghost use Rattle.meaning.specs.Registers.{cell, register_at};
+ghost use Rattle.meaning.specs.Grants.{Terms, most_grants};
+ghost use Rattle.meaning.specs.Answers.{bit_set, success};
+ghost use Rattle.meaning.specs.Reader.{unless, value_reason};
 ghost use Rattle.grants.specs.Kept.{Granting};
-ghost use Rattle.rows_video.specs.Scalers.{Scaler, addressRegister};
+ghost use Rattle.rows_video.specs.Scalers.{Scaler, address_register};
 
 use grants::{Numbers, Part, Spans};
 use meaning::{BAD_VALUE, BIT_SET, Memory, NOT_GRANTED, SUCCESS, Which};
@@ -16,7 +16,7 @@ use rules::{alpha_select, memory_location, must_be_clear};
 
 // 7 where a bit of the mask is set.
 fn masked_reason(value: u32, mask: u32) -> u32
-    ensures reason { result ≡ unless (eqb (bit_and value mask) 0) bitSet success }
+    ensures reason { result ≡ unless (eqb (bit_and value mask) 0) bit_set success }
 {
     if !must_be_clear(value, mask) {
         return BIT_SET;
@@ -26,14 +26,14 @@ fn masked_reason(value: u32, mask: u32) -> u32
 
 // 2208 and 220C, cells 84 and 85.
 pub fn overlay_reason(value: u32) -> u32
-    ensures reason { (g : Terms) (c : ℕ) → 84 ≤ c → c < 86 → result ≡ valueReason g (registerAt (cell c)) value }
+    ensures reason { (g : Terms) (c : ℕ) → 84 ≤ c → c < 86 → result ≡ value_reason g (register_at (cell c)) value }
 {
     masked_reason(value, 0xf800f800)
 }
 
 // 2210, cell 86.
 pub fn alpha_select_reason(value: u32) -> u32
-    ensures reason { (g : Terms) → result ≡ valueReason g (registerAt (cell 86)) value }
+    ensures reason { (g : Terms) → result ≡ value_reason g (register_at (cell 86)) value }
 {
     if !must_be_clear(value, 0xffe000fc) {
         return BIT_SET;
@@ -61,8 +61,8 @@ fn scaler_address_reason(
     numbers: &Numbers,
     part: Part,
 ) -> u32
-    requires inside { part.to ≤ mostGrants }
-    ensures reason { (g : Terms) (role : ℕ) → Granting g role starts.now lasts.now part → result ≡ valueReason g (addressRegister role mask) value }
+    requires inside { part.to ≤ most_grants }
+    ensures reason { (g : Terms) (role : ℕ) → Granting g role starts.now lasts.now part → result ≡ value_reason g (address_register role mask) value }
 {
     if !must_be_clear(value, mask) {
         return BIT_SET;
@@ -82,14 +82,14 @@ fn scaler_address_reason(
 
 // 23E4 and 33E4: cells 87 and 94.
 pub fn deinterlace_reason(value: u32) -> u32
-    ensures reason { (g : Terms) (c role : ℕ) → Scaler c role → result ≡ valueReason g (registerAt (cell c)) value }
+    ensures reason { (g : Terms) (c role : ℕ) → Scaler c role → result ≡ value_reason g (register_at (cell c)) value }
 {
     masked_reason(value, 0x76ffe0fe)
 }
 
 // 23E8 and 33E8: cells 88 and 95.
 pub fn sub_picture_reason(value: u32) -> u32
-    ensures reason { (g : Terms) (c role : ℕ) → Scaler c role → result ≡ valueReason g (registerAt (cell (c + 1))) value }
+    ensures reason { (g : Terms) (c role : ℕ) → Scaler c role → result ≡ value_reason g (register_at (cell (c + 1))) value }
 {
     masked_reason(value, 0x6ffe0000)
 }
@@ -102,8 +102,8 @@ pub fn first_address_reason(
     numbers: &Numbers,
     part: Part,
 ) -> u32
-    requires inside { part.to ≤ mostGrants }
-    ensures reason { (g : Terms) (c role : ℕ) → Scaler c role → Granting g role starts.now lasts.now part → result ≡ valueReason g (registerAt (cell (c + 2))) value }
+    requires inside { part.to ≤ most_grants }
+    ensures reason { (g : Terms) (c role : ℕ) → Scaler c role → Granting g role starts.now lasts.now part → result ≡ value_reason g (register_at (cell (c + 2))) value }
 {
     scaler_address_reason(value, 0x2000000c, starts, lasts, numbers, part)
 }
@@ -116,23 +116,23 @@ pub fn address_reason(
     numbers: &Numbers,
     part: Part,
 ) -> u32
-    requires inside { part.to ≤ mostGrants }
-    ensures second { (g : Terms) (c role : ℕ) → Scaler c role → Granting g role starts.now lasts.now part → result ≡ valueReason g (registerAt (cell (c + 3))) value }
-    ensures third { (g : Terms) (c role : ℕ) → Scaler c role → Granting g role starts.now lasts.now part → result ≡ valueReason g (registerAt (cell (c + 6))) value }
+    requires inside { part.to ≤ most_grants }
+    ensures second { (g : Terms) (c role : ℕ) → Scaler c role → Granting g role starts.now lasts.now part → result ≡ value_reason g (register_at (cell (c + 3))) value }
+    ensures third { (g : Terms) (c role : ℕ) → Scaler c role → Granting g role starts.now lasts.now part → result ≡ value_reason g (register_at (cell (c + 6))) value }
 {
     scaler_address_reason(value, 0xe000000c, starts, lasts, numbers, part)
 }
 
 // 23F4 and 33F4: cells 91 and 98.
 pub fn destination_stride_reason(value: u32) -> u32
-    ensures reason { (g : Terms) (c role : ℕ) → Scaler c role → result ≡ valueReason g (registerAt (cell (c + 4))) value }
+    ensures reason { (g : Terms) (c role : ℕ) → Scaler c role → result ≡ value_reason g (register_at (cell (c + 4))) value }
 {
     masked_reason(value, 0xffffc00f)
 }
 
 // 23F8 and 33F8: cells 92 and 99.
 pub fn source_stride_reason(value: u32) -> u32
-    ensures reason { (g : Terms) (c role : ℕ) → Scaler c role → result ≡ valueReason g (registerAt (cell (c + 5))) value }
+    ensures reason { (g : Terms) (c role : ℕ) → Scaler c role → result ≡ value_reason g (register_at (cell (c + 5))) value }
 {
     masked_reason(value, 0x0decc00f)
 }

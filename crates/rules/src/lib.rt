@@ -14,7 +14,7 @@ pub fn must_be_clear(value: u32, mask: u32) -> bool
 
 // Two constants from 0.0 to 1.0. 1024 stands for 1.0, so the rest of the eleven bits is without meaning.
 pub fn alpha_constants(value: u32) -> bool
-    ensures rule { result ≡ rules.alphaConstants value }
+    ensures rule { result ≡ rules.alpha_constants value }
 {
     value / 0x1000 % 0x800 <= 1024 && value % 0x800 <= 1024
 }
@@ -49,7 +49,7 @@ const BYTES_PER_PIXEL: [u64; 16] = [
 
 // Only the low eight bits count: so every number has an answer, and no index needs a test.
 pub fn bytes_per_pixel(byte: u32) -> u64
-    ensures found { result ≡ rules.bytesPerPixel byte }
+    ensures found { result ≡ rules.bytes_per_pixel byte }
 {
     let row = BYTES_PER_PIXEL[(byte / 16 % 16) as usize];
     (row >> (byte % 16 * 4)) % 16
@@ -57,21 +57,21 @@ pub fn bytes_per_pixel(byte: u32) -> u64
 
 // A format byte is permitted exactly if its pixels have bytes.
 pub fn format_byte(value: u32) -> bool
-    ensures rule { result ≡ rules.formatByte value }
+    ensures rule { result ≡ rules.format_byte value }
 {
     0 < bytes_per_pixel(value / 0x10000 % 0x100)
 }
 
 // Where alpha comes from; 3 is reserved.
 pub fn alpha_select(value: u32) -> bool
-    ensures rule { result ≡ rules.alphaSelect value }
+    ensures rule { result ≡ rules.alpha_select value }
 {
     value % 4 != 3
 }
 
 // As in `location`, for the addresses of the scalers.
 pub fn memory_location(value: u32) -> bool
-    ensures rule { result ≡ rules.memoryLocation value }
+    ensures rule { result ≡ rules.memory_location value }
 {
     value % 4 == 0
 }

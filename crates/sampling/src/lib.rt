@@ -62,7 +62,7 @@ fn tied_set(twos: u32) -> bool
 // 2 is linear anisotropy, which needs both directions, S and T: for enlarging and for shrinking, both codes are 2 or neither is. Of codes
 // that are at most 3 the low two bits tell all. A code is 2 if its upper bit is set and its lower one is not; all four are asked at once.
 fn tied(value: u32) -> bool
-    ensures permitted { result ≡ (rules.bothTwo (value / 0x2000 % 4) (value / 0x80 % 4) && rules.bothTwo (value / 0x400 % 4) (value / 0x10 % 4)) }
+    ensures permitted { result ≡ (rules.both_two (value / 0x2000 % 4) (value / 0x80 % 4) && rules.both_two (value / 0x400 % 4) (value / 0x10 % 4)) }
 {
     tied_set(((value / 2 | value) ^ value) & 0x2490)
 }
@@ -105,7 +105,7 @@ fn volume_code(code: u32) -> bool
 
 // Border colour, clamp, repeat, mirror, then a gap before mirror once.
 fn mapping_code(code: u32) -> bool
-    ensures permitted { result ≡ rules.mappingCode code }
+    ensures permitted { result ≡ rules.mapping_code code }
 {
     match code {
         0..=3 => true,

@@ -8,33 +8,33 @@ use native.Mathlib.Omega.{arith}
 use native.Mathlib.Nat.{zero-add, suc-add, add-suc, add-zero, mul-zero, mul-suc}
 use lib.Dec.{T, ltb, leb}
 use mir.Facts.{ltb_yes, leb_yes}
-use Rattle.laws.proofs.Arms.{told-true, told-false}
+use Rattle.laws.proofs.Arms.{told_true, told_false}
 use Rattle.meaning.specs.declared.Found.{Found}
 use Rattle.meaning.specs.declared.Found.TheVariants.{At}
 use Rattle.meaning.specs.Registers.{cells, cell}
 use Rattle.meaning.specs.Grants.{Terms}
-use Rattle.meaning.specs.Writer.{writable, lowestBad}
-use Rattle.search.specs.Search.{orEnd, lowest}
+use Rattle.meaning.specs.Writer.{writable, lowest_bad}
+use Rattle.search.specs.Search.{or_end, lowest}
 
 module _ (g : Terms) (st : List ℕ) where
   none_here : (i : ℕ) → lowest g st i 0 ≡ i
-  unfolding lowest lowestBad
+  unfolding lowest lowest_bad
   none_here i = add-zero i
 
   -- the first cell, then the others
   first_cell : (i n : ℕ) → lowest g st i (suc n) ≡ cond (writable g st (cell i)) (lowest g st (suc i) n) i
-  unfolding lowest lowestBad
-  first_cell i n = rw (add-suc i n, ← suc-add i n) (pick (writable g st (cell i)) (lowestBad g st (suc i) n))
+  unfolding lowest lowest_bad
+  first_cell i n = rw (add-suc i n, ← suc-add i n) (pick (writable g st (cell i)) (lowest_bad g st (suc i) n))
     where
-      pick : (b : Bool) (more : Found) → orEnd (cond b more (At (cell i))) (suc i + n) ≡ cond b (orEnd more (suc i + n)) i
+      pick : (b : Bool) (more : Found) → or_end (cond b more (At (cell i))) (suc i + n) ≡ cond b (or_end more (suc i + n)) i
       pick true more = refl
       pick false more = refl
 
-  one-fine : (i : ℕ) → writable g st (cell i) ≡ true → lowest g st i 1 ≡ suc i
-  one-fine i e = first_cell i 0 ∙ rw e (none_here (suc i))
+  one_fine : (i : ℕ) → writable g st (cell i) ≡ true → lowest g st i 1 ≡ suc i
+  one_fine i e = first_cell i 0 ∙ rw e (none_here (suc i))
 
-  one-bad : (i : ℕ) → writable g st (cell i) ≡ false → lowest g st i 1 ≡ i
-  one-bad i e = first_cell i 0 ∙ rw e
+  one_bad : (i : ℕ) → writable g st (cell i) ≡ false → lowest g st i 1 ≡ i
+  one_bad i e = first_cell i 0 ∙ rw e
 
   -- n cells, then m
   abbrev Parts : ℕ → ℕ → ℕ → Type 0
@@ -97,8 +97,8 @@ look {g} {st} {i} {n} {c} k t e left f =
     let l : k < n = ltb_yes t in
     let here : Left g st i n c = rw e left in
     record {
-      bad = λ x. stopped here 1 (omega arith) (sym (one-bad g st c (told-false f x))) (omega arith);
-      past = λ x. went here 1 (i + suc k) (omega arith) (omega arith) (sym (one-fine g st c (told-true f x))) (omega arith);
+      bad = λ x. stopped here 1 (omega arith) (sym (one_bad g st c (told_false f x))) (omega arith);
+      past = λ x. went here 1 (i + suc k) (omega arith) (omega arith) (sym (one_fine g st c (told_true f x))) (omega arith);
     }
 
 -- ---- one section after another
@@ -112,8 +112,8 @@ pub record Searched (Given : Terms → Type 0) (st : List ℕ) (c m low : ℕ) :
   pub bad : low < c + m → (g : Terms) → Given g → low ≡ lowest g st 0 cells
   pub past : c + m ≤ low → Rest Given st (c + m)
 
-pub in-section : {Given : Terms → Type 0} {st : List ℕ} {c m low : ℕ} → Rest Given st c → c + m ≤ cells → ((g : Terms) → Given g → low ≡ lowest g st c m) → Searched Given st c m low
-in-section {c = c} {m = m} rest fits told = record {
+pub in_section : {Given : Terms → Type 0} {st : List ℕ} {c m low : ℕ} → Rest Given st c → c + m ≤ cells → ((g : Terms) → Given g → low ≡ lowest g st c m) → Searched Given st c m low
+in_section {c = c} {m = m} rest fits told = record {
   bad = λ h g k. stopped (rest g k) m fits (told g k) h;
   past = λ h g k. went (rest g k) m (c + m) refl fits (told g k) h;
 }
@@ -131,5 +131,5 @@ module _ {Given : Terms → Type 0} {st : List ℕ} {m count start c : ℕ} wher
   begins e rest = record { behind = 0; within = omega arith; here = omega (arith, mul-zero m); rest = rest }
 
   -- and then one more
-  pub goes_on : (l : Loop Given st m count start c) → l.behind < count → Rest Given st (c + m) → Loop Given st m count start (c + m)
-  goes_on l more rest = record { behind = suc l.behind; within = more; here = omega (arith, l.here, mul-suc m l.behind); rest = rest }
+  pub goes_on_lem : (l : Loop Given st m count start c) → l.behind < count → Rest Given st (c + m) → Loop Given st m count start (c + m)
+  goes_on_lem l more rest = record { behind = suc l.behind; within = more; here = omega (arith, l.here, mul-suc m l.behind); rest = rest }

@@ -7,11 +7,11 @@ use Rattle.cells.specs.declared.Row.TheVariants as rows
 use Rattle.cells.specs.Rows.{RowOf, levels, filters, mapping, stage}
 use Rattle.search.specs.Search.{IsStage, IsSample}
 
-pub stage-rows : (c : ℕ) → IsStage c → RowOf rows.Stage c 0 × RowOf rows.Stage (c + 1) 0
-stage-rows c s = let low = s.1 in let e = s.2 in (stage c (omega arith) (omega arith), stage (c + 1) (omega arith) (omega arith))
+pub stage_rows : (c : ℕ) → IsStage c → RowOf rows.Stage c 0 × RowOf rows.Stage (c + 1) 0
+stage_rows c s = let low = s.1 in let e = s.2 in (stage c (omega arith) (omega arith), stage (c + 1) (omega arith) (omega arith))
 
-pub sample-rows : (c : ℕ) → IsSample c → RowOf rows.Levels c 0 × RowOf rows.Filters (c + 1) 0 × RowOf rows.Mapping (c + 2) 0
-sample-rows c s =
+pub sample_rows : (c : ℕ) → IsSample c → RowOf rows.Levels c 0 × RowOf rows.Filters (c + 1) 0 × RowOf rows.Mapping (c + 2) 0
+sample_rows c s =
     let n = s.0 in
     let e = s.2 in
     let e1 : 37 + 3 * n ≡ c + 1 = omega arith in
@@ -19,5 +19,5 @@ sample-rows c s =
     (rw e (levels n s.1), subst (λ k. RowOf rows.Filters k 0) e1 (filters n s.1), subst (λ k. RowOf rows.Mapping k 0) e2 (mapping n s.1))
 
 -- a cell without an address is granted whatever is
-pub no_address : {A : Type 0} → (◌≡◌ {A = ℕ} 0 0 → ⊥) → A
-no_address n = absurd (n refl)
+pub no_address_lem : {A : Type 0} → (◌≡◌ {A = ℕ} 0 0 → ⊥) → A
+no_address_lem n = absurd (n refl)

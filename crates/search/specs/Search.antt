@@ -4,16 +4,16 @@ use Rattle.std.specs.Prelude.{◌≡◌, List, ℕ, ◌+◌, ◌*◌, ◌<◌}
 use Rattle.meaning.specs.declared.Found.{Found}
 use Rattle.meaning.specs.declared.Found.TheVariants.{At, Missing}
 use Rattle.meaning.specs.Grants.{Terms}
-use Rattle.meaning.specs.Writer.{lowestBad}
+use Rattle.meaning.specs.Writer.{lowest_bad}
 
 -- the number of the cell that was found; where there is none, the one that is told in its place
-abbrev pub orEnd : Found → ℕ → ℕ
-orEnd (At c) end = c.0
-orEnd Missing end = end
+abbrev pub or_end : Found → ℕ → ℕ
+or_end (At c) end = c.0
+or_end Missing end = end
 
 -- the lowest of n cells from number i on that may not be written, or the cell after them
 unfoldable pub lowest : Terms → List ℕ → ℕ → ℕ → ℕ
-lowest g st i n = orEnd (lowestBad g st i n) (i + n)
+lowest g st i n = or_end (lowest_bad g st i n) (i + n)
 
 -- the first cell of a stage
 abbrev pub IsStage : ℕ → Type 0

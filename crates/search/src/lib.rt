@@ -2,8 +2,8 @@
 ghost use Rattle.std.specs.Prelude.{◌≡◌, ℕ, ◌+◌, ◌≤◌, T};
 ghost use Rattle.meaning.specs.Words.{words_of};
 ghost use Rattle.meaning.specs.Registers.{cells};
-ghost use Rattle.meaning.specs.Grants.{Terms, mostGrants};
-ghost use Rattle.meaning.specs.State.{wellFormed};
+ghost use Rattle.meaning.specs.Grants.{Terms, most_grants};
+ghost use Rattle.meaning.specs.State.{well_formed};
 ghost use Rattle.grants.specs.Kept.{Granting, Bounded, Keeps};
 ghost use Rattle.rows_video.specs.Scalers.{Scaler, IsScaler};
 ghost use Rattle.cells.specs.Rows.{RowOf};
@@ -22,8 +22,8 @@ fn bad_in_target(
     numbers: &Numbers,
     part: Part,
 ) -> usize
-    requires formed { T (wellFormed (words_of state.now)) }
-    requires inside { part.to ≤ mostGrants }
+    requires formed { T (well_formed (words_of state.now)) }
+    requires inside { part.to ≤ most_grants }
     ensures lowest { (g : Terms) → Granting g 1 starts.now lasts.now part → result ≡ lowest g (words_of state.now) 0 4 }
 {
     let c = Cell(0);
@@ -53,7 +53,7 @@ fn bad_in_two(
     lasts: &Spans,
     numbers: &Numbers,
 ) -> usize
-    requires formed { T (wellFormed (words_of state.now)) }
+    requires formed { T (well_formed (words_of state.now)) }
     requires low { RowOf low first 0 }
     requires high { RowOf high (first + 1) 0 }
     ensures lowest { (g : Terms) → result ≡ lowest g (words_of state.now) first 2 }
@@ -76,7 +76,7 @@ fn bad_in_stage(
     lasts: &Spans,
     numbers: &Numbers,
 ) -> usize
-    requires formed { T (wellFormed (words_of state.now)) }
+    requires formed { T (well_formed (words_of state.now)) }
     requires stage { IsStage first }
     ensures lowest { (g : Terms) → result ≡ lowest g (words_of state.now) first 2 }
 {
@@ -91,7 +91,7 @@ fn bad_in_sample(
     lasts: &Spans,
     numbers: &Numbers,
 ) -> usize
-    requires formed { T (wellFormed (words_of state.now)) }
+    requires formed { T (well_formed (words_of state.now)) }
     requires sample { IsSample first }
     ensures lowest { (g : Terms) → result ≡ lowest g (words_of state.now) first 3 }
 {
@@ -117,7 +117,7 @@ fn bad_in_sample(
 
 // 2208, 220C and 2210.
 fn bad_in_overlay(state: &[u8], starts: &Spans, lasts: &Spans, numbers: &Numbers) -> usize
-    requires formed { T (wellFormed (words_of state.now)) }
+    requires formed { T (well_formed (words_of state.now)) }
     ensures lowest { (g : Terms) → result ≡ lowest g (words_of state.now) 84 3 }
 {
     let none = Part { from: 0, to: 0 };
@@ -143,9 +143,9 @@ fn bad_in_scaler(
     numbers: &Numbers,
     part: Part,
 ) -> usize
-    requires formed { T (wellFormed (words_of state.now)) }
+    requires formed { T (well_formed (words_of state.now)) }
     requires scaler { IsScaler own }
-    requires inside { part.to ≤ mostGrants }
+    requires inside { part.to ≤ most_grants }
     ensures lowest { (g : Terms) (role : ℕ) → Scaler own role → Granting g role starts.now lasts.now part → result ≡ lowest g (words_of state.now) own 7 }
 {
     let c = Cell(own);
@@ -196,7 +196,7 @@ pub fn lowest_bad(
     numbers: &Numbers,
     bounds: &Bounds,
 ) -> usize
-    requires formed { T (wellFormed (words_of state.now)) }
+    requires formed { T (well_formed (words_of state.now)) }
     requires bounded { Bounded bounds.now }
     ensures lowest { (g : Terms) → Keeps g starts.now lasts.now bounds.now → result ≡ lowest g (words_of state.now) 0 cells }
 {

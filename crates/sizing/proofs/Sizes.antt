@@ -15,159 +15,159 @@ use Rattle.meaning.specs.declared.Found.TheVariants.{At, Missing}
 use Rattle.meaning.specs.declared.Answer.{Answer}
 use Rattle.meaning.specs.Words.{words_of}
 use Rattle.meaning.specs.Registers.{cells}
-use Rattle.meaning.specs.Grants.{termsOf, grantsFine}
-use Rattle.meaning.specs.State.{wellFormed}
-use Rattle.meaning.specs.Pair.{pairFine}
-use Rattle.meaning.specs.Answers.{badState, badGrants, badBuffer, noRoom, success, answer, provided}
-use Rattle.meaning.specs.Writer.{size_of, mostWritten, lowestBad, withPair, exceptAt, sizeAnswer, writeAnswer, inRoom}
+use Rattle.meaning.specs.Grants.{terms_of, grants_fine}
+use Rattle.meaning.specs.State.{well_formed}
+use Rattle.meaning.specs.Pair.{pair_fine}
+use Rattle.meaning.specs.Answers.{bad_state, bad_grants, bad_buffer, no_room, success, answer, provided}
+use Rattle.meaning.specs.Writer.{size_of, most_written, lowest_bad, with_pair, except_at, size_answer, write_answer, in_room}
 use Rattle.meaning.specs.Reasons.{SizeGives, WriterGives}
-use Rattle.meaning.specs.Exported.{wordBufferFine, exportedSize, exportedWrite}
-use Rattle.meaning.proofs.Bytes.{provided-then, provided-first}
-use Rattle.meaning.proofs.Exported.{provided-range}
+use Rattle.meaning.specs.Exported.{word_buffer_fine, exported_size, exported_write}
+use Rattle.meaning.proofs.Bytes.{provided_then, provided_first}
+use Rattle.meaning.proofs.Exported.{provided_range}
 use Rattle.meaning.proofs.States.{Sound}
-use Rattle.meaning.proofs.Writing.{written-at-most}
-use Rattle.meaning.proofs.Outputs.{write-exactly, wrote}
+use Rattle.meaning.proofs.Writing.{written_at_most}
+use Rattle.meaning.proofs.Outputs.{write_exactly, wrote}
 
 -- ---- the size, as the writer's answer in just enough room
 
 module _ (st grants : List ℕ) where
-  as_written : sizeAnswer st grants ≡ writeAnswer st grants (size_of st)
-  unfolding sizeAnswer writeAnswer
+  as_written : size_answer st grants ≡ write_answer st grants (size_of st)
+  unfolding size_answer write_answer
   as_written = rw (le-leb (size_of st) (size_of st) (omega arith))
 
-  to-writer : {r p : ℕ} → SizeGives st grants r p → WriterGives st grants (size_of st) r p
-  to-writer (SizeGives.bad-state n) = WriterGives.bad-state n
-  to-writer (SizeGives.bad-grants w n) = WriterGives.bad-grants w n
-  to-writer (SizeGives.not-writable w f l bad before) = WriterGives.not-writable w f l bad before
-  to-writer (SizeGives.done w f fine) = WriterGives.done w f fine (omega arith)
+  to_writer : {r p : ℕ} → SizeGives st grants r p → WriterGives st grants (size_of st) r p
+  to_writer (SizeGives.by_bad_state n) = WriterGives.by_bad_state n
+  to_writer (SizeGives.by_bad_grants w n) = WriterGives.by_bad_grants w n
+  to_writer (SizeGives.by_not_writable w f l bad before) = WriterGives.by_not_writable w f l bad before
+  to_writer (SizeGives.done w f fine) = WriterGives.done w f fine (omega arith)
 
-  from-writer : {r p : ℕ} → WriterGives st grants (size_of st) r p → SizeGives st grants r p
-  from-writer (WriterGives.bad-state n) = SizeGives.bad-state n
-  from-writer (WriterGives.bad-grants w n) = SizeGives.bad-grants w n
-  from-writer (WriterGives.not-writable w f l bad before) = SizeGives.not-writable w f l bad before
-  from-writer (WriterGives.no_room w f fine l) = absurd (omega arith)
-  from-writer (WriterGives.done w f fine l) = SizeGives.done w f fine
+  from_writer : {r p : ℕ} → WriterGives st grants (size_of st) r p → SizeGives st grants r p
+  from_writer (WriterGives.by_bad_state n) = SizeGives.by_bad_state n
+  from_writer (WriterGives.by_bad_grants w n) = SizeGives.by_bad_grants w n
+  from_writer (WriterGives.by_not_writable w f l bad before) = SizeGives.by_not_writable w f l bad before
+  from_writer (WriterGives.by_no_room w f fine l) = absurd (omega arith)
+  from_writer (WriterGives.done w f fine l) = SizeGives.done w f fine
 
   -- the table of reasons and the answer agree
-  pub size-exactly : (r p : ℕ) → (sizeAnswer st grants ≡ answer r p) ↔ SizeGives st grants r p
-  size-exactly r p =
-      let writer = write-exactly st grants (size_of st) r p in
-      (λ e. from-writer (writer.0 (sym as_written ∙ e)), λ s. as_written ∙ writer.1 (to-writer s))
+  pub size_exactly : (r p : ℕ) → (size_answer st grants ≡ answer r p) ↔ SizeGives st grants r p
+  size_exactly r p =
+      let writer = write_exactly st grants (size_of st) r p in
+      (λ e. from_writer (writer.0 (sym as_written ∙ e)), λ s. as_written ∙ writer.1 (to_writer s))
 
-  size-told : SizeGives st grants (sizeAnswer st grants).reason (sizeAnswer st grants).place
-  size-told = (size-exactly _ _).0 refl
+  size_told : SizeGives st grants (size_answer st grants).reason (size_answer st grants).place
+  size_told = (size_exactly _ _).0 refl
 
   -- 11 is none of its reasons, nor is 13
-  pub size-reason : ((sizeAnswer st grants).reason ≢ noRoom) × ((sizeAnswer st grants).reason < badBuffer)
-  size-reason = by size-told
+  pub size_reason : ((size_answer st grants).reason ≢ no_room) × ((size_answer st grants).reason < bad_buffer)
+  size_reason = by size_told
     where
-      by : {r p : ℕ} → SizeGives st grants r p → (r ≢ noRoom) × (r < badBuffer)
-      by (SizeGives.bad-state n) = (λ e. omega arith, omega arith)
-      by (SizeGives.bad-grants w n) = (λ e. omega arith, omega arith)
-      by (SizeGives.not-writable w f l bad before) = (λ e. omega arith, omega arith)
+      by : {r p : ℕ} → SizeGives st grants r p → (r ≢ no_room) × (r < bad_buffer)
+      by (SizeGives.by_bad_state n) = (λ e. omega arith, omega arith)
+      by (SizeGives.by_bad_grants w n) = (λ e. omega arith, omega arith)
+      by (SizeGives.by_not_writable w f l bad before) = (λ e. omega arith, omega arith)
       by (SizeGives.done w f fine) = (λ e. omega arith, omega arith)
 
   -- W4 "No state needs more than 184 words.", and a cell's number is smaller
-  pub size-place : (sizeAnswer st grants).place ≤ mostWritten
-  size-place = by size-told
+  pub size_place : (size_answer st grants).place ≤ most_written
+  size_place = by size_told
     where
-      by : {r p : ℕ} → SizeGives st grants r p → p ≤ mostWritten
-      by (SizeGives.bad-state n) = omega arith
-      by (SizeGives.bad-grants w n) = omega arith
-      by (SizeGives.not-writable w f l bad before) = omega arith
-      by (SizeGives.done w f fine) = written-at-most st
+      by : {r p : ℕ} → SizeGives st grants r p → p ≤ most_written
+      by (SizeGives.by_bad_state n) = omega arith
+      by (SizeGives.by_bad_grants w n) = omega arith
+      by (SizeGives.by_not_writable w f l bad before) = omega arith
+      by (SizeGives.done w f fine) = written_at_most st
 
   -- what 0 tells: the grants are fine, the cells of the state hold what they may, the place is the number of words, and the pair is fine
-  pub sized : (sizeAnswer st grants).reason ≡ 0
-      → T (grantsFine grants) × Sound (termsOf grants) st × ((sizeAnswer st grants).place ≡ size_of st) × T (pairFine (termsOf grants) st)
+  pub sized : (size_answer st grants).reason ≡ 0
+      → T (grants_fine grants) × Sound (terms_of grants) st × ((size_answer st grants).place ≡ size_of st) × T (pair_fine (terms_of grants) st)
   sized e = rw as_written (wrote st grants (size_of st) (rw as_written at e))
 
 -- ---- the room
 
 -- where the room is told to suffice, the size is told too, and is not more
-pub done-in : (room : ℕ) (a : Answer) → (inRoom room a).reason ≡ 0 → (a.reason ≡ 0) × (a.place ≤ room) × (inRoom room a ≡ a)
-done-in room a = by-reason (eqb a.reason success) refl
+pub done_in : (room : ℕ) (a : Answer) → (in_room room a).reason ≡ 0 → (a.reason ≡ 0) × (a.place ≤ room) × (in_room room a ≡ a)
+done_in room a = by_reason (eqb a.reason success) refl
   where
-    by-room : (b : Bool) → leb a.place room ≡ b → a.reason ≡ 0 → (provided b noRoom a).reason ≡ 0 → (a.reason ≡ 0) × (a.place ≤ room) × (provided b noRoom a ≡ a)
-    by-room true l z e = (z, leb-true a.place room l, refl)
-    by-room false l z e = absurd (omega arith)
+    by_room : (b : Bool) → leb a.place room ≡ b → a.reason ≡ 0 → (provided b no_room a).reason ≡ 0 → (a.reason ≡ 0) × (a.place ≤ room) × (provided b no_room a ≡ a)
+    by_room true l z e = (z, leb-true a.place room l, refl)
+    by_room false l z e = absurd (omega arith)
 
-    by-reason : (b : Bool) → eqb a.reason success ≡ b → (cond b (provided (leb a.place room) noRoom a) a).reason ≡ 0
-        → (a.reason ≡ 0) × (a.place ≤ room) × (cond b (provided (leb a.place room) noRoom a) a ≡ a)
-    by-reason true z e = by-room (leb a.place room) refl (eqb-true a.reason success z) e
-    by-reason false z e = absurd (eqb-false a.reason success z e)
+    by_reason : (b : Bool) → eqb a.reason success ≡ b → (cond b (provided (leb a.place room) no_room a) a).reason ≡ 0
+        → (a.reason ≡ 0) × (a.place ≤ room) × (cond b (provided (leb a.place room) no_room a) a ≡ a)
+    by_reason true z e = by_room (leb a.place room) refl (eqb-true a.reason success z) e
+    by_reason false z e = absurd (eqb-false a.reason success z e)
 
 -- and where it is told and is not more, the room changes nothing; nor does it where the size is refused
-pub enough-in : (room : ℕ) (a : Answer) → a.reason ≡ 0 → a.place ≤ room → inRoom room a ≡ a
-enough-in room a z l = rw (z, le-leb a.place room l)
+pub enough_in : (room : ℕ) (a : Answer) → a.reason ≡ 0 → a.place ≤ room → in_room room a ≡ a
+enough_in room a z l = rw (z, le-leb a.place room l)
 
-pub refused-in : (room : ℕ) (a : Answer) → a.reason ≢ 0 → inRoom room a ≡ a
-refused-in room a n = rw (ne_eqb a.reason 0 n)
+pub refused_in : (room : ℕ) (a : Answer) → a.reason ≢ 0 → in_room room a ≡ a
+refused_in room a n = rw (ne_eqb a.reason 0 n)
 
 -- 11 is what the room gives, where nothing else does
-pub short-in : (room : ℕ) (a : Answer) → a.reason ≢ noRoom → ((inRoom room a).reason ≡ noRoom) ↔ ((a.reason ≡ 0) × (room < a.place))
-short-in room a n = (by-reason (eqb a.reason success) refl, λ h. rw (h.0, lt-leb a.place room h.1))
+pub short_in : (room : ℕ) (a : Answer) → a.reason ≢ no_room → ((in_room room a).reason ≡ no_room) ↔ ((a.reason ≡ 0) × (room < a.place))
+short_in room a n = (by_reason (eqb a.reason success) refl, λ h. rw (h.0, lt-leb a.place room h.1))
   where
-    by-room : (b : Bool) → leb a.place room ≡ b → a.reason ≡ 0 → (provided b noRoom a).reason ≡ noRoom → (a.reason ≡ 0) × (room < a.place)
-    by-room true l z e = absurd (n e)
-    by-room false l z e = (z, leb-false a.place room l)
+    by_room : (b : Bool) → leb a.place room ≡ b → a.reason ≡ 0 → (provided b no_room a).reason ≡ no_room → (a.reason ≡ 0) × (room < a.place)
+    by_room true l z e = absurd (n e)
+    by_room false l z e = (z, leb-false a.place room l)
 
-    by-reason : (b : Bool) → eqb a.reason success ≡ b → (cond b (provided (leb a.place room) noRoom a) a).reason ≡ noRoom → (a.reason ≡ 0) × (room < a.place)
-    by-reason true z e = by-room (leb a.place room) refl (eqb-true a.reason success z) e
-    by-reason false z e = absurd (n e)
+    by_reason : (b : Bool) → eqb a.reason success ≡ b → (cond b (provided (leb a.place room) no_room a) a).reason ≡ no_room → (a.reason ≡ 0) × (room < a.place)
+    by_reason true z e = by_room (leb a.place room) refl (eqb-true a.reason success z) e
+    by_reason false z e = absurd (n e)
 
 -- ---- the writer, by the size and the room
 
 module _ (st grants : List ℕ) (room : ℕ) where
   -- D8 "The writer refuses what the size refuses, with the same answer"
-  pub size-then-write : writeAnswer st grants room ≡ inRoom room (sizeAnswer st grants)
-  unfolding sizeAnswer writeAnswer
-  size-then-write = by (wellFormed st) (grantsFine grants) (withPair (pairFine (termsOf grants) st) (lowestBad (termsOf grants) st 0 cells))
+  pub size_then_write : write_answer st grants room ≡ in_room room (size_answer st grants)
+  unfolding size_answer write_answer
+  size_then_write = by (well_formed st) (grants_fine grants) (with_pair (pair_fine (terms_of grants) st) (lowest_bad (terms_of grants) st 0 cells))
     where
       by : (b c : Bool) (f : Found)
-          → provided b badState (provided c badGrants (exceptAt f (provided (leb (size_of st) room) noRoom (answer success (size_of st)))))
-          ≡ inRoom room (provided b badState (provided c badGrants (exceptAt f (answer success (size_of st)))))
+          → provided b bad_state (provided c bad_grants (except_at f (provided (leb (size_of st) room) no_room (answer success (size_of st)))))
+          ≡ in_room room (provided b bad_state (provided c bad_grants (except_at f (answer success (size_of st)))))
       by false c f = refl
       by true false f = refl
       by true true (At c) = refl
       by true true Missing = refl
 
   -- D8 "else it gives 11 exactly if the output has fewer words than the size tells"
-  pub eleven-exactly : ((writeAnswer st grants room).reason ≡ noRoom) ↔ (((sizeAnswer st grants).reason ≡ 0) × (room < (sizeAnswer st grants).place))
-  eleven-exactly = rw size-then-write (short-in room (sizeAnswer st grants) (size-reason st grants).0)
+  pub eleven_exactly : ((write_answer st grants room).reason ≡ no_room) ↔ (((size_answer st grants).reason ≡ 0) × (room < (size_answer st grants).place))
+  eleven_exactly = rw size_then_write (short_in room (size_answer st grants) (size_reason st grants).0)
 
   -- the writer's place is the size's, or 0
-  pub write-place : (writeAnswer st grants room).place ≤ mostWritten
-  write-place = rw size-then-write (by (eqb (sizeAnswer st grants).reason success) (leb (sizeAnswer st grants).place room))
+  pub write_place : (write_answer st grants room).place ≤ most_written
+  write_place = rw size_then_write (by (eqb (size_answer st grants).reason success) (leb (size_answer st grants).place room))
     where
-      by : (b c : Bool) → (cond b (provided c noRoom (sizeAnswer st grants)) (sizeAnswer st grants)).place ≤ mostWritten
-      by true true = size-place st grants
+      by : (b c : Bool) → (cond b (provided c no_room (size_answer st grants)) (size_answer st grants)).place ≤ most_written
+      by true true = size_place st grants
       by true false = omega arith
-      by false c = size-place st grants
+      by false c = size_place st grants
 
 -- ---- the calls of the driver
 
 module _ (st grants : List ℕ) where
-  pub size-call-range : (exportedSize st grants).reason < 256
-  unfolding exportedSize
-  size-call-range = provided-range (wordBufferFine st && wordBufferFine grants) _ (omega (arith, (size-reason (words_of st) (words_of grants)).1))
+  pub size_call_range : (exported_size st grants).reason < 256
+  unfolding exported_size
+  size_call_range = provided_range (word_buffer_fine st && word_buffer_fine grants) _ (omega (arith, (size_reason (words_of st) (words_of grants)).1))
 
-  pub size-13-exactly : ((exportedSize st grants).reason ≡ 13) ↔ (¬ T (wordBufferFine st && wordBufferFine grants))
-  unfolding exportedSize
-  size-13-exactly = provided-first (wordBufferFine st && wordBufferFine grants) 13 _ (λ e. omega (arith, (size-reason (words_of st) (words_of grants)).1))
+  pub size_13_exactly : ((exported_size st grants).reason ≡ 13) ↔ (¬ T (word_buffer_fine st && word_buffer_fine grants))
+  unfolding exported_size
+  size_13_exactly = provided_first (word_buffer_fine st && word_buffer_fine grants) 13 _ (λ e. omega (arith, (size_reason (words_of st) (words_of grants)).1))
 
-  pub size-call : T (wordBufferFine st && wordBufferFine grants) → exportedSize st grants ≡ sizeAnswer (words_of st) (words_of grants)
-  unfolding exportedSize
-  size-call fine = provided-then (wordBufferFine st && wordBufferFine grants) 13 _ fine
+  pub size_call : T (word_buffer_fine st && word_buffer_fine grants) → exported_size st grants ≡ size_answer (words_of st) (words_of grants)
+  unfolding exported_size
+  size_call fine = provided_then (word_buffer_fine st && word_buffer_fine grants) 13 _ fine
 
   -- 13 for the output goes before all; else the size's 13 stays, as its other refusals do
-  pub size-then-write-call : (out : List ℕ) → exportedWrite st grants out ≡ provided (wordBufferFine out) badBuffer (inRoom (length out / 4) (exportedSize st grants))
-  unfolding exportedWrite exportedSize every
-  size-then-write-call out =
-      ap (provided (every wordBufferFine (st ∷ grants ∷ out ∷ [])) badBuffer) (size-then-write (words_of st) (words_of grants) (length out / 4))
-      ∙ by (wordBufferFine st) (wordBufferFine grants) (wordBufferFine out) (sizeAnswer (words_of st) (words_of grants))
+  pub size_then_write_call : (out : List ℕ) → exported_write st grants out ≡ provided (word_buffer_fine out) bad_buffer (in_room (length out / 4) (exported_size st grants))
+  unfolding exported_write exported_size every
+  size_then_write_call out =
+      ap (provided (every word_buffer_fine (st ∷ grants ∷ out ∷ [])) bad_buffer) (size_then_write (words_of st) (words_of grants) (length out / 4))
+      ∙ by (word_buffer_fine st) (word_buffer_fine grants) (word_buffer_fine out) (size_answer (words_of st) (words_of grants))
     where
-      by : (x y z : Bool) (a : Answer) → provided (x && (y && (z && true))) badBuffer (inRoom (length out / 4) a) ≡ provided z badBuffer (inRoom (length out / 4) (provided (x && y) badBuffer a))
+      by : (x y z : Bool) (a : Answer) → provided (x && (y && (z && true))) bad_buffer (in_room (length out / 4) a) ≡ provided z bad_buffer (in_room (length out / 4) (provided (x && y) bad_buffer a))
       by true true true a = refl
       by true true false a = refl
       by true false true a = refl

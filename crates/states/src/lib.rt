@@ -4,14 +4,14 @@ ghost use Rattle.laws.specs.Lists.{over};
 ghost use Rattle.laws.specs.Tests.{implies};
 ghost use Rattle.meaning.specs.Words.{words_of, bytes_of};
 ghost use Rattle.meaning.specs.Registers.{cells};
-ghost use Rattle.meaning.specs.State.{stateWords, value_at, markAt, isMark, marked, wellFormed, one, countIn};
-ghost use Rattle.states.specs.Marks.{marksTo, clearTo};
+ghost use Rattle.meaning.specs.State.{state_words, value_at, mark_at, is_mark, marked, well_formed, one, count_in};
+ghost use Rattle.states.specs.Marks.{marks_to, clear_to};
 
 use meaning::{CELLS, Cell, STATE_WORDS, State};
 
 // The value of a cell,
 pub fn value(state: &[u8], cell: Cell) -> u32
-    requires whole { length (words_of state.now) ≡ stateWords }
+    requires whole { length (words_of state.now) ≡ state_words }
     requires inside { cell.0 < cells }
     ensures value { result ≡ value_at (words_of state.now) cell }
 {
@@ -20,17 +20,17 @@ pub fn value(state: &[u8], cell: Cell) -> u32
 
 // and its mark.
 pub fn mark(state: &[u8], cell: Cell) -> u32
-    requires whole { length (words_of state.now) ≡ stateWords }
+    requires whole { length (words_of state.now) ≡ state_words }
     requires inside { cell.0 < cells }
-    ensures mark { result ≡ markAt (words_of state.now) cell }
+    ensures mark { result ≡ mark_at (words_of state.now) cell }
 {
     words::word(state, CELLS + cell.0)
 }
 
 // All marks, gathered by `|`: at most 1 exactly if each is.
 fn gathered_marks(state: &[u8]) -> u32
-    requires whole { length (words_of state.now) ≡ stateWords }
-    ensures small { nat_le result 1 ≡ marksTo (words_of state.now) cells }
+    requires whole { length (words_of state.now) ≡ state_words }
+    ensures small { nat_le result 1 ≡ marks_to (words_of state.now) cells }
 {
     let mut marks: u32 = 0;
     let mut c = 0;
@@ -51,9 +51,9 @@ fn excess(value: u32, mark: u32) -> u32
 
 // What all cells hold without a mark, gathered by `|`: 0 exactly if no cell holds anything so.
 fn gathered_excess(state: &[u8]) -> u32
-    requires whole { length (words_of state.now) ≡ stateWords }
-    requires marks { T (marksTo (words_of state.now) cells) }
-    ensures clear { (result == 0) ≡ clearTo (words_of state.now) cells }
+    requires whole { length (words_of state.now) ≡ state_words }
+    requires marks { T (marks_to (words_of state.now) cells) }
+    ensures clear { (result == 0) ≡ clear_to (words_of state.now) cells }
 {
     let mut held: u32 = 0;
     let mut c = 0;
@@ -66,7 +66,7 @@ fn gathered_excess(state: &[u8]) -> u32
 
 // As many words as a state has, each mark 0 or 1, and an unmarked value is 0. Two loops with no early way out, so that each becomes one over vectors.
 pub fn well_formed(state: &[u8]) -> bool
-    ensures formed { result ≡ wellFormed (words_of state.now) }
+    ensures formed { result ≡ well_formed (words_of state.now) }
 {
     if state.len() / 4 != STATE_WORDS {
         return false;
@@ -78,7 +78,7 @@ pub fn well_formed(state: &[u8]) -> bool
 }
 
 fn one(mark: u32) -> usize
-    ensures one { result ≡ one (isMark mark) }
+    ensures one { result ≡ one (is_mark mark) }
     ensures few { result ≤ 1 }
 {
     if mark == 0 {
@@ -90,8 +90,8 @@ fn one(mark: u32) -> usize
 // How many of the cells from `first` to before `end` are marked. The caller has seen to the sizes, so that the loop tests none.
 pub fn marked_between(state: &[u8], first: usize, end: usize) -> usize
     requires inside { end ≤ cells }
-    requires whole { length (words_of state.now) ≡ stateWords }
-    ensures count { result ≡ countIn (marked (words_of state.now)) first (end - first) }
+    requires whole { length (words_of state.now) ≡ state_words }
+    ensures count { result ≡ count_in (marked (words_of state.now)) first (end - first) }
 {
     let mut n: usize = 0;
     let mut c = first;
@@ -104,8 +104,8 @@ pub fn marked_between(state: &[u8], first: usize, end: usize) -> usize
 
 // Copies a state out of bytes. A function is not told the length of an array behind a reference, so the caller tells it.
 pub fn load(bytes: &[u8], state: &mut State)
-    requires whole { length (words_of bytes.now) ≡ stateWords }
-    requires array { length state.old ≡ stateWords }
+    requires whole { length (words_of bytes.now) ≡ state_words }
+    requires array { length state.old ≡ state_words }
     ensures loaded { state.new ≡ words_of bytes.now }
 {
     let mut i = 0;
@@ -117,8 +117,8 @@ pub fn load(bytes: &[u8], state: &mut State)
 
 // And back: bytes past the last whole word stay as they were.
 pub fn store(state: &State, bytes: &mut [u8])
-    requires whole { length (words_of bytes.old) ≡ stateWords }
-    requires array { length state.now ≡ stateWords }
+    requires whole { length (words_of bytes.old) ≡ state_words }
+    requires array { length state.now ≡ state_words }
     ensures stored { bytes.new ≡ over (bytes_of state.now) bytes.old }
 {
     let mut i = 0;

@@ -5,5 +5,5 @@ use Rattle.std.proofs.lemmas.List.Edits.{sets}
 use Rattle.meaning.specs.Words.{bytes_of}
 
 -- a run of stores of the words' bytes
-unfoldable pub putWords : List ℕ → ℕ → List ℕ → List ℕ
-putWords bytes at ws = sets bytes (at * 4) (bytes_of ws)
+unfoldable pub put_words : List ℕ → ℕ → List ℕ → List ℕ
+put_words bytes at ws = sets bytes (at * 4) (bytes_of ws)

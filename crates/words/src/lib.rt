@@ -1,7 +1,7 @@
 // Words of 32 bits in buffers of bytes, the lowest byte first. A word is read where it is used, and no buffer of words is held.
 ghost use Rattle.std.specs.Prelude.{◌≡◌, [], ◌∷◌, ◌<◌, ◌/◌, length, get_or};
 ghost use Rattle.meaning.specs.Words.{words_of};
-ghost use Rattle.words.specs.Stores.{putWords};
+ghost use Rattle.words.specs.Stores.{put_words};
 
 // A parameter is known to be a byte, which an element of a slice is not.
 fn wide(byte: u8) -> u32
@@ -26,7 +26,7 @@ pub fn word(bytes: &[u8], i: usize) -> u32
 // Stores word number i. The four stores in this order compile to one of 32 bits.
 pub fn put_word(bytes: &mut [u8], i: usize, w: u32)
     requires inside { i < length bytes.old / 4 }
-    ensures stored { bytes.new ≡ putWords bytes.old i (w ∷ []) }
+    ensures stored { bytes.new ≡ put_words bytes.old i (w ∷ []) }
 {
     let at = i * 4;
     bytes[at] = (w % 256) as u8;

@@ -3,5 +3,5 @@
 use Rattle.std.specs.Prelude.{Bool, cond, ℕ, eqb}
 
 -- cell 0 where it is found; else cell 1 where the pair is not fine, and what was found where it is
-abbrev pub lowestWith : Bool → ℕ → ℕ
-lowestWith fine found = cond (eqb found 0) 0 (cond fine found 1)
+abbrev pub lowest_with : Bool → ℕ → ℕ
+lowest_with fine found = cond (eqb found 0) 0 (cond fine found 1)

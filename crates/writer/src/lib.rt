@@ -2,13 +2,13 @@
 ghost use Rattle.std.specs.Prelude.{◌≡◌, true, ◌/◌, ◌≤◌, ◌<◌, length};
 ghost use Rattle.laws.specs.Lists.{over};
 ghost use Rattle.meaning.specs.Words.{words_of, bytes_of};
-ghost use Rattle.meaning.specs.Registers.{sections3D};
-ghost use Rattle.meaning.specs.Grants.{mostGrants};
-ghost use Rattle.meaning.specs.State.{stateWords, marked};
+ghost use Rattle.meaning.specs.Registers.{sections_3d};
+ghost use Rattle.meaning.specs.Grants.{most_grants};
+ghost use Rattle.meaning.specs.State.{state_words, marked};
 ghost use Rattle.meaning.specs.Answers.{success, answer, settle};
-ghost use Rattle.meaning.specs.Writer.{written, needAmong, sizeAnswer, writeAnswer, inRoom};
-ghost use Rattle.pair.specs.Judged.{pair_of, fineIn, KnownLocal};
-ghost use Rattle.writer.specs.Lowest.{lowestWith};
+ghost use Rattle.meaning.specs.Writer.{written, need_among, size_answer, write_answer, in_room};
+ghost use Rattle.pair.specs.Judged.{pair_of, fine_in, KnownLocal};
+ghost use Rattle.writer.specs.Lowest.{lowest_with};
 
 use grants::{BOUNDS, IN_MEMORY_1, Numbers, Part, Spans};
 use meaning::{
@@ -44,10 +44,10 @@ fn with_pair(
     part: Part,
     near: bool,
 ) -> usize
-    requires whole { length (words_of state.now) ≡ stateWords }
-    requires inside { part.to ≤ mostGrants }
+    requires whole { length (words_of state.now) ≡ state_words }
+    requires inside { part.to ≤ most_grants }
     requires near { near ≡ true → 1 < found → KnownLocal starts.now lasts.now numbers.now part (words_of state.now) }
-    ensures lowest { result ≡ lowestWith (fineIn starts.now lasts.now numbers.now part (pair_of (words_of state.now))) found }
+    ensures lowest { result ≡ lowest_with (fine_in starts.now lasts.now numbers.now part (pair_of (words_of state.now))) found }
 {
     if found == 0 {
         return 0;
@@ -61,8 +61,8 @@ fn with_pair(
 
 // All that is asked of a state and its grants, and the words that are needed: what size and writer have in common.
 fn measure(state: &[u8], grants: &[u8]) -> Measured
-    ensures answer { result.answer ≡ sizeAnswer (words_of state.now) (words_of grants.now) }
-    ensures before_video { result.answer.reason ≡ success → result.before_video ≡ needAmong (marked (words_of state.now)) sections3D }
+    ensures answer { result.answer ≡ size_answer (words_of state.now) (words_of grants.now) }
+    ensures before_video { result.answer.reason ≡ success → result.before_video ≡ need_among (marked (words_of state.now)) sections_3d }
 {
     if !states::well_formed(state) {
         return refused(BAD_STATE, 0);
@@ -95,14 +95,14 @@ fn measure(state: &[u8], grants: &[u8]) -> Measured
 // Tells how many words the batch has: 1 and 2 as the reader has them, 12 at the lowest cell that may not be written, else 0 and the words
 // that are needed. Bytes past the last whole word of a buffer count for nothing.
 pub fn size(state: &[u8], grants: &[u8]) -> Answer
-    ensures answer { result ≡ sizeAnswer (words_of state.now) (words_of grants.now) }
+    ensures answer { result ≡ size_answer (words_of state.now) (words_of grants.now) }
 {
     measure(state, grants).answer
 }
 
 // The writer's answer in room for so many words: what the size refuses, then 11, else what the size tells.
 fn in_room(size: Answer, room: usize) -> Answer
-    ensures answer { result ≡ inRoom room size }
+    ensures answer { result ≡ in_room room size }
 {
     if size.reason != SUCCESS {
         return size;
@@ -119,7 +119,7 @@ fn in_room(size: Answer, room: usize) -> Answer
 // Writes the batch: the reasons of the size, then 11 if the output has fewer words than are needed, else 0 and the words written. The
 // output is changed only once nothing can be refused any more.
 pub fn write(state: &[u8], grants: &[u8], out: &mut [u8]) -> Answer
-    ensures answer { result ≡ writeAnswer (words_of state.now) (words_of grants.now) (length out.old / 4) }
+    ensures answer { result ≡ write_answer (words_of state.now) (words_of grants.now) (length out.old / 4) }
     ensures bytes { out.new ≡ settle result (over (bytes_of (written (words_of state.now))) out.old) out.old }
 {
     let asked = measure(state, grants);

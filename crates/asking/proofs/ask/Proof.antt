@@ -4,8 +4,8 @@ use mathlib.Core.Path.{refl}
 use native.Mathlib.Omega.{arith}
 use borrow.Author.Rules.{rules}
 use Rattle.headers.proofs.Groups.{unnamed}
-use Rattle.asking.proofs.Positions.{leads, from-setting, from_zero, from-offset, at_position}
-use Rattle.asking.proofs.Parts.{target-part}
+use Rattle.asking.proofs.Positions.{leads, from_setting, from_zero, from_offset, at_position}
+use Rattle.asking.proofs.Parts.{target_part}
 use Rattle.asking.proofs.ask.Statement.{statement}
 use Rattle.asking.proofs.ask.Tie as tie
 
@@ -38,7 +38,7 @@ at-video-requires c κs = search rules
 returns-3 : tie.Need-returns-3
 returns-3 c g kept =
     let other = unnamed _ c.before.before.before.before.Group-of.ensures c.before.before.enum_told.given.1 in
-    at_position g _ (from-offset _ other c.before.if2.false) (omega arith) (c.at-video.ensures g kept)
+    at_position g _ (from_offset _ other c.before.if2.false) (omega arith) (c.at-video.ensures g kept)
 
 part-of-requires : tie.Need-part-of-requires
 part-of-requires c κs = search rules
@@ -49,7 +49,7 @@ at-parameter-requires c κs = (leads _ c.before.before.Group-of.ensures c.before
 returns-4 : tie.Need-returns-4
 returns-4 c g kept =
     let own = leads _ c.before.before.before.Group-of.ensures c.before.before.match.keys2 in
-    at_position g _ (from-setting _ own.fine) (omega arith) (c.at-parameter.ensures g (target-part g _ _ _ kept c.before.part_of.ensures.0))
+    at_position g _ (from_setting _ own.fine) (omega arith) (c.at-parameter.ensures g (target_part g _ _ _ kept c.before.part_of.ensures.0))
 
 pub ask-spec : {M : Type 1} → statement M
 ask-spec =

@@ -2,7 +2,7 @@
 -- Assumes nothing.
 use mathlib.Core.Path.{refl, ◌∙◌}
 use borrow.Author.Rules.{rules}
-use Rattle.asking.proofs.Asking.{header_refused, header-taken, run-taken}
+use Rattle.asking.proofs.Asking.{header_refused, header_taken, run_taken}
 use Rattle.headers.proofs.Openings.{told}
 use Rattle.asking.proofs.at_header.Statement.{statement}
 use Rattle.asking.proofs.at_header.Tie as tie
@@ -50,19 +50,19 @@ returns-2 : tie.Need-returns-2
 returns-2 c g kind =
     let h = c.before.before.before in
     let fine = told _ h.header_of.ensures c.before.enum_told.given.1 in
-    c.moved_on.ensures ∙ header-taken g kind _ fine.0 fine.1 h.before.before.count.ensures refl
+    c.moved_on.ensures ∙ header_taken g kind _ fine.0 fine.1 h.before.before.count.ensures refl
 
 returns-3 : tie.Need-returns-3
 returns-3 c g kind =
     let h = c.before.before.before in
     let run = told _ h.header_of.ensures c.before.enum-told2.given.1 in
-    c.moved-on2.ensures ∙ run-taken g kind _ run h.before.before.count.ensures h.before.offset.ensures
+    c.moved-on2.ensures ∙ run_taken g kind _ run h.before.before.count.ensures h.before.offset.ensures
 
 returns-4 : tie.Need-returns-4
 returns-4 c g kind =
     let h = c.before.before.before in
     let run = told _ h.header_of.ensures c.before.enum-told3.given.1 in
-    c.moved-on3.ensures ∙ run-taken g kind _ run.0 h.before.before.count.ensures h.before.offset.ensures
+    c.moved-on3.ensures ∙ run_taken g kind _ run.0 h.before.before.count.ensures h.before.offset.ensures
 
 pub at-header-spec : {M : Type 1} → statement M
 at-header-spec =

@@ -3,14 +3,14 @@
 use mathlib.Core.Path.{◌∙◌}
 use native.Mathlib.Omega.{arith}
 use borrow.Author.Rules.{rules}
-use Rattle.meaning.proofs.Stretches.{offset-small}
+use Rattle.meaning.proofs.Stretches.{offset_small}
 use Rattle.rows_video.specs.Scalers.{Scaler}
-use Rattle.rows_video.proofs.Scalers.{scaler-cells, scaler-role}
+use Rattle.rows_video.proofs.Scalers.{scaler_cells, scaler_role}
 use Rattle.headers.specs.Told.{Runs}
-use Rattle.asking.proofs.Asking.{video-none, video-at}
+use Rattle.asking.proofs.Asking.{video_none, video_at}
 use Rattle.headers.proofs.Openings.{told}
-use Rattle.asking.proofs.Offsets.{single, none-refused, none-setting, in_row, found_at}
-use Rattle.asking.proofs.Parts.{scaler-part}
+use Rattle.asking.proofs.Offsets.{single, none_refused, none_setting, in_row, found_at}
+use Rattle.asking.proofs.Parts.{scaler_part}
 use Rattle.asking.proofs.at_video.Statement.{statement}
 use Rattle.asking.proofs.at_video.Tie as tie
 
@@ -25,7 +25,7 @@ offset-requires : tie.Need-offset-requires
 offset-requires c κs = search rules
 
 add-header-of : tie.Need-overflow-add-header-of
-add-header-of c = omega (arith, offset-small _ c.offset.ensures)
+add-header-of c = omega (arith, offset_small _ c.offset.ensures)
 
 header-of-requires : tie.Need-header-of-requires
 header-of-requires c κs = search rules
@@ -52,13 +52,13 @@ add-t18 : tie.Need-overflow-add-t18
 add-t18 c = let o = c.before.before in omega (arith, in_row _ o.before.before.before.offset.ensures (as-overlay o))
 
 for-video-requires : tie.Need-for-video-requires
-for-video-requires c κs = offset-small _ c.before.before.before.before.before.offset.ensures
+for-video-requires c κs = offset_small _ c.before.before.before.before.before.offset.ensures
 
 enum-known-opened-2 : tie.Need-enum-known-opened-2
 enum-known-opened-2 c = search rules
 
 part-of-requires : tie.Need-part-of-requires
-part-of-requires c κs = scaler-role (as-scaler c.before).1
+part-of-requires c κs = scaler_role (as-scaler c.before).1
 
 scaler-reason-requires : tie.Need-scaler-reason-requires
 scaler-reason-requires c κs = let o = c.before.before in (in_row _ o.before.before.before.offset.ensures (as-scaler o).0, c.part_of.ensures.1)
@@ -66,29 +66,29 @@ scaler-reason-requires c κs = let o = c.before.before in (in_row _ o.before.bef
 add-t21 : tie.Need-overflow-add-t21
 add-t21 c =
     let o = c.before.before.before in
-    omega (arith, in_row _ o.before.before.before.offset.ensures (as-scaler o).0, (scaler-cells (as-scaler o).1).1)
+    omega (arith, in_row _ o.before.before.before.offset.ensures (as-scaler o).0, (scaler_cells (as-scaler o).1).1)
 
 for-video-requires-2 : tie.Need-for-video-requires-2
-for-video-requires-2 c κs = offset-small _ c.before.before.before.before.before.before.offset.ensures
+for-video-requires-2 c κs = offset_small _ c.before.before.before.before.before.before.offset.ensures
 
 returns : tie.Need-returns
 returns c g kept =
     let h = c.before.before.before in
     let bad = told _ h.header_of.ensures c.before.enum_told.given.1 in
-    c.refused.ensures ∙ video-none g _ _ _ (none-refused _ h.before.offset.ensures bad.0 bad.1)
+    c.refused.ensures ∙ video_none g _ _ _ (none_refused _ h.before.offset.ensures bad.0 bad.1)
 
 returns-2 : tie.Need-returns-2
 returns-2 c g kept =
     let h = c.before.before.before in
     let fine = told _ h.header_of.ensures c.before.enum-told2.given.1 in
-    c.refused2.ensures ∙ video-none g _ _ _ (none-setting _ h.before.offset.ensures fine.1)
+    c.refused2.ensures ∙ video_none g _ _ _ (none_setting _ h.before.offset.ensures fine.1)
 
 returns-3 : tie.Need-returns-3
 returns-3 c g kept =
     let o = c.before.before.before in
     let e = o.before.before.before.offset.ensures in
     let at = found_at _ e (as-overlay o) (omega arith) (omega arith) in
-    video-at g _ _ _ at (c.before.overlay-reason.ensures g) e c.for-video.ensures
+    video_at g _ _ _ at (c.before.overlay-reason.ensures g) e c.for-video.ensures
 
 returns-4 : tie.Need-returns-4
 returns-4 c g kept =
@@ -96,9 +96,9 @@ returns-4 c g kept =
     let o = p.before.before in
     let e = o.before.before.before.offset.ensures in
     let run = as-scaler o in
-    let at = found_at _ e run.0 (scaler-cells run.1).0 (scaler-cells run.1).1 in
-    let given = scaler-part g _ _ _ kept run.1 p.part_of.ensures.0 in
-    video-at g _ _ _ at (c.before.scaler-reason.ensures g _ _ run.1 given) e c.for-video2.ensures
+    let at = found_at _ e run.0 (scaler_cells run.1).0 (scaler_cells run.1).1 in
+    let given = scaler_part g _ _ _ kept run.1 p.part_of.ensures.0 in
+    video_at g _ _ _ at (c.before.scaler-reason.ensures g _ _ run.1 given) e c.for-video2.ensures
 
 pub at-video-spec : {M : Type 1} → statement M
 at-video-spec =

@@ -2,7 +2,7 @@
 -- Assumes nothing.
 use native.Mathlib.Omega.{arith}
 use borrow.Author.Rules.{rules}
-use Rattle.asking.proofs.Parts.{part-is}
+use Rattle.asking.proofs.Parts.{part_is}
 use Rattle.asking.proofs.part_of.Statement.{statement}
 use Rattle.asking.proofs.part_of.Tie as tie
 
@@ -25,13 +25,13 @@ returns : tie.Need-returns
 returns c =
     let w = c.before.before.before in
     let a = w.before.before.args in
-    (part-is a.bounds.now a.role w.wide.ensures (omega arith), omega arith)
+    (part_is a.bounds.now a.role w.wide.ensures (omega arith), omega arith)
 
 returns-2 : tie.Need-returns-2
 returns-2 c =
     let w = c.before.before.before in
     let a = w.before.before.args in
-    (part-is a.bounds.now a.role w.wide.ensures (omega arith), omega arith)
+    (part_is a.bounds.now a.role w.wide.ensures (omega arith), omega arith)
 
 pub part-of-spec : {M : Type 1} → statement M
 part-of-spec =

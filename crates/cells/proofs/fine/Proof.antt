@@ -2,9 +2,9 @@
 -- Assumes nothing.
 use mathlib.Core.Path.{sym, ◌∙◌}
 use borrow.Author.Tests.{ltb-true}
-use Rattle.laws.proofs.Arms.{told-true, told-false}
+use Rattle.laws.proofs.Arms.{told_true, told_false}
 use Rattle.cells.proofs.Known.{known}
-use Rattle.cells.proofs.Asked.{whole, passed_over, looked-at}
+use Rattle.cells.proofs.Asked.{whole, passed_over, looked_at_lem}
 use borrow.Author.Rules.{rules}
 use Rattle.cells.proofs.fine.Statement.{statement}
 use Rattle.cells.proofs.fine.Tie as tie
@@ -28,12 +28,12 @@ returns-2 c g role is given =
     let n = c.before in
     let z = n.before in
     let v = z.before.before in
-    sym (looked-at g _ v.before.before.requires.0 (known is) v.value.ensures z.before.vacant.ensures z.if1.false ∙ rw (told-false n.narrow.ensures c.if2.true))
+    sym (looked_at_lem g _ v.before.before.requires.0 (known is) v.value.ensures z.before.vacant.ensures z.if1.false ∙ rw (told_false n.narrow.ensures c.if2.true))
 
 row-reason-requires : tie.Need-row-reason-requires
 row-reason-requires c κs =
     let n = c.before in
-    (ltb-true _ _ (told-true n.narrow.ensures c.if2.false), n.before.before.before.before.before.requires.1.1)
+    (ltb-true _ _ (told_true n.narrow.ensures c.if2.false), n.before.before.before.before.before.requires.1.1)
 
 returns-3 : tie.Need-returns-3
 returns-3 c g role is given =
@@ -41,8 +41,8 @@ returns-3 c g role is given =
     let n = l.before in
     let z = n.before in
     let v = z.before.before in
-    sym (looked-at g _ v.before.before.requires.0 (known is) v.value.ensures z.before.vacant.ensures z.if1.false
-    ∙ rw (told-true n.narrow.ensures l.if2.false, c.row-reason.ensures g _ role is given))
+    sym (looked_at_lem g _ v.before.before.requires.0 (known is) v.value.ensures z.before.vacant.ensures z.if1.false
+    ∙ rw (told_true n.narrow.ensures l.if2.false, c.row-reason.ensures g _ role is given))
 
 pub fine-spec : {M : Type 1} → statement M
 fine-spec =

@@ -6,7 +6,7 @@ use lib.Dec.{eqb}
 use Rattle.laws.specs.Lists.{every}
 use native.Mathlib.Omega.{arith}
 use Rattle.cells.specs.Rows.{width_of}
-use Rattle.cells.proofs.Arms.{of-rest, at_most, word}
+use Rattle.cells.proofs.Arms.{of_rest, at_most, word}
 use borrow.Author.Rules.{rules}
 use Rattle.cells.proofs.narrow.Statement.{statement}
 use Rattle.cells.proofs.narrow.Tie as tie
@@ -69,7 +69,7 @@ returns-8 c = at_most c.enum-told8.given.1 refl c.before.before.args.value
 
 returns-9 : tie.Need-returns-9
 unfolding width_of every
-returns-9 c = let a = c.before.args in word a.row (of-rest (λ row. eqb (width_of row) 32) (8 ∷ 9 ∷ 10 ∷ 11 ∷ 12 ∷ 13 ∷ 14 ∷ 15 ∷ []) tt a.row c.match.keys9) a.value (omega arith)
+returns-9 c = let a = c.before.args in word a.row (of_rest (λ row. eqb (width_of row) 32) (8 ∷ 9 ∷ 10 ∷ 11 ∷ 12 ∷ 13 ∷ 14 ∷ 15 ∷ []) tt a.row c.match.keys9) a.value (omega arith)
 
 pub narrow-spec : {M : Type 1} → statement M
 narrow-spec =

@@ -1,6 +1,6 @@
 -- Each arm tells what the function of its row tells.
 -- Assumes nothing.
-use Rattle.cells.proofs.Judged.{in-arm}
+use Rattle.cells.proofs.Judged.{in_arm}
 use Rattle.cells.specs.Rows.{width_of}
 use borrow.Author.Rules.{rules}
 use Rattle.cells.proofs.row_reason.Statement.{statement}
@@ -104,52 +104,52 @@ source-stride-reason-requires : tie.Need-source-stride-reason-requires
 source-stride-reason-requires c κs = search rules
 
 returns : tie.Need-returns
-returns c = in-arm _ _ _ _ _ c.before.enum_told.given.1 c.alpha-constants-reason.ensures
+returns c = in_arm _ _ _ _ _ c.before.enum_told.given.1 c.alpha-constants-reason.ensures
 
 returns-2 : tie.Need-returns-2
-returns-2 c = in-arm _ _ _ _ _ c.before.enum-told2.given.1 c.target-address-reason.ensures
+returns-2 c = in_arm _ _ _ _ _ c.before.enum-told2.given.1 c.target-address-reason.ensures
 
 returns-3 : tie.Need-returns-3
-returns-3 c = in-arm _ _ _ _ _ c.before.enum-told3.given.1 c.location-reason.ensures
+returns-3 c = in_arm _ _ _ _ _ c.before.enum-told3.given.1 c.location-reason.ensures
 
 returns-4 : tie.Need-returns-4
-returns-4 c = in-arm _ _ _ _ _ c.before.enum-told4.given.1 c.format-reason.ensures
+returns-4 c = in_arm _ _ _ _ _ c.before.enum-told4.given.1 c.format-reason.ensures
 
 returns-5 : tie.Need-returns-5
-returns-5 c = in-arm _ _ _ _ _ c.before.enum-told5.given.1 c.stage-reason.ensures
+returns-5 c = in_arm _ _ _ _ _ c.before.enum-told5.given.1 c.stage-reason.ensures
 
 returns-6 : tie.Need-returns-6
-returns-6 c = in-arm _ _ _ _ _ c.before.enum-told6.given.1 c.levels-reason.ensures
+returns-6 c = in_arm _ _ _ _ _ c.before.enum-told6.given.1 c.levels-reason.ensures
 
 returns-7 : tie.Need-returns-7
-returns-7 c = in-arm _ _ _ _ _ c.before.enum-told7.given.1 c.filters-reason.ensures
+returns-7 c = in_arm _ _ _ _ _ c.before.enum-told7.given.1 c.filters-reason.ensures
 
 returns-8 : tie.Need-returns-8
-returns-8 c = in-arm _ _ _ _ _ c.before.enum-told8.given.1 c.mapping-reason.ensures
+returns-8 c = in_arm _ _ _ _ _ c.before.enum-told8.given.1 c.mapping-reason.ensures
 
 returns-9 : tie.Need-returns-9
-returns-9 c = in-arm _ _ _ _ _ c.before.enum-told9.given.1 c.overlay-reason.ensures
+returns-9 c = in_arm _ _ _ _ _ c.before.enum-told9.given.1 c.overlay-reason.ensures
 
 returns-10 : tie.Need-returns-10
-returns-10 c = in-arm _ _ _ _ _ c.before.enum-told10.given.1 c.alpha-select-reason.ensures
+returns-10 c = in_arm _ _ _ _ _ c.before.enum-told10.given.1 c.alpha-select-reason.ensures
 
 returns-11 : tie.Need-returns-11
-returns-11 c = in-arm _ _ _ _ _ c.before.enum-told11.given.1 c.deinterlace-reason.ensures
+returns-11 c = in_arm _ _ _ _ _ c.before.enum-told11.given.1 c.deinterlace-reason.ensures
 
 returns-12 : tie.Need-returns-12
-returns-12 c = in-arm _ _ _ _ _ c.before.enum-told12.given.1 c.sub-picture-reason.ensures
+returns-12 c = in_arm _ _ _ _ _ c.before.enum-told12.given.1 c.sub-picture-reason.ensures
 
 returns-13 : tie.Need-returns-13
-returns-13 c = in-arm _ _ _ _ _ c.before.enum-told13.given.1 c.first-address-reason.ensures
+returns-13 c = in_arm _ _ _ _ _ c.before.enum-told13.given.1 c.first-address-reason.ensures
 
 returns-14 : tie.Need-returns-14
-returns-14 c = in-arm _ _ _ _ _ c.before.enum-told14.given.1 c.address-reason.ensures
+returns-14 c = in_arm _ _ _ _ _ c.before.enum-told14.given.1 c.address-reason.ensures
 
 returns-15 : tie.Need-returns-15
-returns-15 c = in-arm _ _ _ _ _ c.before.enum-told15.given.1 c.destination-stride-reason.ensures
+returns-15 c = in_arm _ _ _ _ _ c.before.enum-told15.given.1 c.destination-stride-reason.ensures
 
 returns-16 : tie.Need-returns-16
-returns-16 c = in-arm _ _ _ _ _ c.before.enum-told16.given.1 c.source-stride-reason.ensures
+returns-16 c = in_arm _ _ _ _ _ c.before.enum-told16.given.1 c.source-stride-reason.ensures
 
 pub row-reason-spec : {M : Type 1} → statement M
 row-reason-spec =

@@ -7,40 +7,40 @@ use native.Mathlib.Omega.{arith}
 use lib.ListN.{length}
 use Rattle.laws.specs.Lists.{over}
 use Rattle.meaning.specs.Words.{words_of, bytes_of}
-use Rattle.meaning.specs.Registers.{sections3D, sectionsVideo}
+use Rattle.meaning.specs.Registers.{sections_3d, sections_video}
 use Rattle.meaning.specs.State.{marked}
 use Rattle.meaning.specs.Writer.{written}
-use Rattle.meaning.proofs.Writing.{sections-length}
-use Rattle.words.specs.Stores.{putWords}
-use Rattle.words.proofs.Stores.{length-put, put-append, put-over}
-use Rattle.emitter_3d.specs.Emitted.{wordsOfSections}
-use Rattle.emitter.proofs.Videos.{written-parts, written-length}
+use Rattle.meaning.proofs.Writing.{sections_length}
+use Rattle.words.specs.Stores.{put_words}
+use Rattle.words.proofs.Stores.{length_put, put_append, put_over}
+use Rattle.emitter_3d.specs.Emitted.{words_of_sections}
+use Rattle.emitter.proofs.Videos.{written_parts, written_length}
 use borrow.Author.Rules.{rules}
 use Rattle.emitter.proofs.emit.Statement.{statement}
 use Rattle.emitter.proofs.emit.Tie as tie
 
-stored : (st old mid out : List ℕ) (at : ℕ) → length (written st) ≤ length old / 4 → at ≡ length (wordsOfSections st sections3D)
-    → mid ≡ putWords old 0 (wordsOfSections st sections3D) → out ≡ putWords mid at (wordsOfSections st sectionsVideo) → out ≡ over (bytes_of (written st)) old
+stored : (st old mid out : List ℕ) (at : ℕ) → length (written st) ≤ length old / 4 → at ≡ length (words_of_sections st sections_3d)
+    → mid ≡ put_words old 0 (words_of_sections st sections_3d) → out ≡ put_words mid at (words_of_sections st sections_video) → out ≡ over (bytes_of (written st)) old
 stored st old mid out at room ends one two =
-    let e : at ≡ 0 + length (wordsOfSections st sections3D) = omega arith in
-    rw (two, one, e, put-append old 0 (wordsOfSections st sections3D) (wordsOfSections st sectionsVideo), ← written-parts st) (put-over (written st) old room)
+    let e : at ≡ 0 + length (words_of_sections st sections_3d) = omega arith in
+    rw (two, one, e, put_append old 0 (words_of_sections st sections_3d) (words_of_sections st sections_video), ← written_parts st) (put_over (written st) old room)
 
 -- the words before the video packets end where they are said to
-ends : (s : tie.Start) → s.args.before-video ≡ length (wordsOfSections (words_of s.args.state.now) sections3D)
-ends s = let st = words_of s.args.state.now in s.requires.1.1.1 ∙ sym (sections-length (marked st) st sections3D)
+ends : (s : tie.Start) → s.args.before-video ≡ length (words_of_sections (words_of s.args.state.now) sections_3d)
+ends s = let st = words_of s.args.state.now in s.requires.1.1.1 ∙ sym (sections_length (marked st) st sections_3d)
 
 emit-3d-requires : tie.Need-emit-3d-requires
 emit-3d-requires c κs =
     let s = c.before.before.before in
-    (s.requires.0, (s.requires.1.0, (ends s, omega (arith, ends s, s.requires.1.1.0, written-length (words_of s.args.state.now)))))
+    (s.requires.0, (s.requires.1.0, (ends s, omega (arith, ends s, s.requires.1.1.0, written_length (words_of s.args.state.now)))))
 
 emit-video-requires : tie.Need-emit-video-requires
 emit-video-requires c κs =
     let e = c.before.before.before in
     let s = e.before.before.before.before in
     let st = words_of s.args.state.now in
-    let long = ap length e.emit-3d.ensures ∙ length-put s.args.out.now 0 (wordsOfSections st sections3D) in
-    (s.requires.0, omega (arith, s.requires.1.1.0, written-length st, ends s, long))
+    let long = ap length e.emit-3d.ensures ∙ length_put s.args.out.now 0 (words_of_sections st sections_3d) in
+    (s.requires.0, omega (arith, s.requires.1.1.0, written_length st, ends s, long))
 
 same_length : tie.Need-same-length
 same_length c = search rules

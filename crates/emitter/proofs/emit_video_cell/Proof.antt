@@ -6,10 +6,10 @@ use native.Mathlib.Omega.{arith}
 use lib.ListN.{length}
 use Rattle.meaning.specs.declared.VideoOffset.{VideoOffset}
 use Rattle.meaning.specs.Words.{words_of}
-use Rattle.meaning.specs.State.{markAt}
-use Rattle.words.proofs.Stores.{length-put}
-use Rattle.emitter_3d.proofs.Cells.{emits_none, two-stored}
-use Rattle.emitter.proofs.Videos.{video-none, video-one, offset-short}
+use Rattle.meaning.specs.State.{mark_at}
+use Rattle.words.proofs.Stores.{length_put}
+use Rattle.emitter_3d.proofs.Cells.{emits_none, two_stored}
+use Rattle.emitter.proofs.Videos.{video_none, video_one, offset_short}
 use borrow.Author.Rules.{rules}
 use Rattle.emitter.proofs.emit_video_cell.Statement.{statement}
 use Rattle.emitter.proofs.emit_video_cell.Tie as tie
@@ -20,16 +20,16 @@ mark-requires c κs = search rules
 returns : tie.Need-returns
 returns c =
     let a = c.before.before.before.before.args in
-    emits_none a.out.now a.at (video-none (words_of a.state.now) a.cell (sym c.before.mark.ensures ∙ c.if1.true))
+    emits_none a.out.now a.at (video_none (words_of a.state.now) a.cell (sym c.before.mark.ensures ∙ c.if1.true))
 
 -- the cell is marked here
-is-marked : (c : tie.Else1) → let a = c.before.before.before.before.args in markAt (words_of a.state.now) a.cell ≡ 0 → ⊥
-is-marked c e = c.if1.false (c.before.mark.ensures ∙ e)
+is_marked : (c : tie.Else1) → let a = c.before.before.before.before.args in mark_at (words_of a.state.now) a.cell ≡ 0 → ⊥
+is_marked c e = c.if1.false (c.before.mark.ensures ∙ e)
 
 room : (c : tie.Else1) → let a = c.before.before.before.before.args in a.at + 2 ≤ length a.out.now / 4
 room c =
     let s = c.before.before.before.before in
-    omega (arith, s.requires.1.1.1, ap length (video-one (words_of s.args.state.now) s.args.cell (is-marked c)))
+    omega (arith, s.requires.1.1.1, ap length (video_one (words_of s.args.state.now) s.args.cell (is_marked c)))
 
 offset-of-requires : tie.Need-offset-of-requires
 offset-of-requires c κs = search rules
@@ -37,7 +37,7 @@ offset-of-requires c κs = search rules
 add-put-word : tie.Need-overflow-add-put-word
 add-put-word c =
     let s = c.before.before.before.before.before.before.before in
-    omega (arith, offset-short s.args.cell s.requires.1.0 s.requires.1.1.0, ap (λ (o : VideoOffset). o.0) c.before.before.offset-of.ensures)
+    omega (arith, offset_short s.args.cell s.requires.1.0 s.requires.1.1.0, ap (λ (o : VideoOffset). o.0) c.before.before.offset-of.ensures)
 
 put-word-requires : tie.Need-put-word-requires
 put-word-requires c κs = omega (arith, room c.before.before.before)
@@ -51,7 +51,7 @@ value-requires c κs = search rules
 put-word-requires-2 : tie.Need-put-word-requires-2
 put-word-requires-2 c κs =
     let p = c.before.before.before.before in
-    omega (arith, room p.before.before.before.before, ap length p.put_word.ensures ∙ length-put _ _ _)
+    omega (arith, room p.before.before.before.before, ap length p.put_word.ensures ∙ length_put _ _ _)
 
 add-result : tie.Need-overflow-add-result
 add-result c = search rules
@@ -65,8 +65,8 @@ returns-2 c =
     let one = two.before.before.before.before.before in
     let told = one.before.before.before in
     let a = told.before.before.before.before.before.args in
-    rw (video-one (words_of a.state.now) a.cell (is-marked told.before), ← told.offset-of.ensures, ← two.before.value.ensures)
-    (omega arith, two-stored _ _ _ _ one.put_word.ensures two.put-word2.ensures)
+    rw (video_one (words_of a.state.now) a.cell (is_marked told.before), ← told.offset-of.ensures, ← two.before.value.ensures)
+    (omega arith, two_stored _ _ _ _ one.put_word.ensures two.put-word2.ensures)
 
 pub emit-video-cell-spec : {M : Type 1} → statement M
 emit-video-cell-spec =

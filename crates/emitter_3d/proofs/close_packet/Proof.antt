@@ -5,9 +5,9 @@ use Prim.Native.Nat.{◌+◌}
 use native.Mathlib.Omega.{arith}
 use lib.ListN.{length}
 use borrow.Author.Tests.{eq-eqb, ne_eqb}
-use Rattle.words.proofs.Stores.{length-put}
-use Rattle.emitter_3d.specs.Closed.{closedEnd, closedWords}
-use Rattle.emitter_3d.proofs.Cells.{two-stored}
+use Rattle.words.proofs.Stores.{length_put}
+use Rattle.emitter_3d.specs.Closed.{closed_end, closed_words}
+use Rattle.emitter_3d.proofs.Cells.{two_stored}
 use borrow.Author.Rules.{rules}
 use Rattle.emitter_3d.proofs.close_packet.Statement.{statement}
 use Rattle.emitter_3d.proofs.close_packet.Tie as tie
@@ -16,7 +16,7 @@ add-if1 : tie.Need-overflow-add-if1
 add-if1 c = search rules
 
 returns : tie.Need-returns
-unfolding closedEnd closedWords
+unfolding closed_end closed_words
 returns c = let a = c.before.before.args in rw (eq-eqb a.end (a.at + 2) c.if1.true) (refl, refl)
 
 sub-put-word : tie.Need-overflow-sub-put-word
@@ -53,18 +53,18 @@ put-word-requires-2 : tie.Need-put-word-requires-2
 put-word-requires-2 c κs =
     let p = c.before.before.before in
     let left = p.before.before in
-    omega (arith, left.before.before.requires.1.1.1.1 left.if1.false, ap length p.put_word.ensures ∙ length-put _ _ _)
+    omega (arith, left.before.before.requires.1.1.1.1 left.if1.false, ap length p.put_word.ensures ∙ length_put _ _ _)
 
 same_length : tie.Need-same-length
 same_length c = search rules
 
 returns-2 : tie.Need-returns-2
-unfolding closedEnd closedWords
+unfolding closed_end closed_words
 returns-2 c =
     let p = c.before.before.before.before.before.before in
     let left = p.before.before in
     let a = left.before.before.args in
-    rw (ne_eqb a.end (a.at + 2) left.if1.false) (refl, two-stored _ _ _ _ p.put_word.ensures c.before.before.put-word2.ensures)
+    rw (ne_eqb a.end (a.at + 2) left.if1.false) (refl, two_stored _ _ _ _ p.put_word.ensures c.before.before.put-word2.ensures)
 
 pub close-packet-spec : {M : Type 1} → statement M
 close-packet-spec =

@@ -6,8 +6,8 @@ use Prim.Native.Nat.{◌+◌, ◌*◌, ◌/◌, ◌<◌, ◌^◌}
 use native.Mathlib.Omega.{arith}
 use lib.ListN.{length}
 use Rattle.meaning.specs.Words.{words_of}
-use Rattle.emitter_3d.specs.Emitted.{parameterOf}
-use Rattle.emitter_3d.proofs.Cells.{emits_none, parameter-none, parameter-one}
+use Rattle.emitter_3d.specs.Emitted.{parameter_of}
+use Rattle.emitter_3d.proofs.Cells.{emits_none, parameter_none, parameter_one}
 use borrow.Author.Rules.{rules}
 use Rattle.emitter_3d.proofs.emit_parameter.Statement.{statement}
 use Rattle.emitter_3d.proofs.emit_parameter.Tie as tie
@@ -18,7 +18,7 @@ mark-requires c κs = search rules
 returns : tie.Need-returns
 returns c =
     let a = c.before.before.before.before.args in
-    emits_none a.out.now a.at (parameter-none (words_of a.state.now) a.cell a.address (sym c.before.mark.ensures ∙ c.if1.true))
+    emits_none a.out.now a.at (parameter_none (words_of a.state.now) a.cell a.address (sym c.before.mark.ensures ∙ c.if1.true))
 
 mul-put-word : tie.Need-overflow-mul-put-word
 mul-put-word c = search rules
@@ -29,11 +29,11 @@ value-requires c κs = search rules
 -- the cell is marked here
 one : (c : tie.After-value)
     → let a = c.before.before.before.before.before.before.before.args in
-    parameterOf (words_of a.state.now) a.cell a.address ≡ (a.address.0 * 2 ^ 24 + c.value.result) ∷ []
+    parameter_of (words_of a.state.now) a.cell a.address ≡ (a.address.0 * 2 ^ 24 + c.value.result) ∷ []
 one c =
     let marked = c.before.before.before in
     let a = marked.before.before.before.before.args in
-    rw c.value.ensures (parameter-one (words_of a.state.now) a.cell a.address (λ e. marked.if1.false (marked.before.mark.ensures ∙ e)))
+    rw c.value.ensures (parameter_one (words_of a.state.now) a.cell a.address (λ e. marked.if1.false (marked.before.mark.ensures ∙ e)))
 
 place : (c : tie.After-value) → let a = c.before.before.before.before.before.before.before.args in a.at < length a.out.now / 4
 place c =

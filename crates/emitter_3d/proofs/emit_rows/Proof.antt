@@ -3,15 +3,15 @@
 use Prim.Native.Nat.{◌+◌, ◌-◌}
 use native.Mathlib.Omega.{arith}
 use Rattle.meaning.specs.Words.{words_of}
-use Rattle.emitter_3d.specs.Emitted.{parametersFrom}
-use Rattle.emitter_3d.proofs.Runs.{Runs, begun, same-long, in_row, row-room-next, row-went, row-past}
+use Rattle.emitter_3d.specs.Emitted.{parameters_from}
+use Rattle.emitter_3d.proofs.Runs.{Runs, begun, same_long, in_row, row_room_next, row_went, row_past}
 use Rattle.emitter_3d.proofs.Emitted.{row_at, rows_row}
 use Rattle.emitter_3d.proofs.emit_rows.Statement.{statement}
 use Rattle.emitter_3d.proofs.emit_rows.Tie as tie
 
 abbrev invariant-loop : tie.invariant-loop
 invariant-loop state rows out₀ at cell address end₀ k₀ out end k =
-    Runs (parametersFrom (words_of state) cell address rows) out₀ at (in_row (row_at (words_of state) cell address) k (rows - k)) out end
+    Runs (parameters_from (words_of state) cell address rows) out₀ at (in_row (row_at (words_of state) cell address) k (rows - k)) out end
 
 abbrev decreases-loop : tie.decreases-loop
 decreases-loop state rows out₀ at cell address end₀ k₀ out end k = rows - k
@@ -34,7 +34,7 @@ emit-parameter-requires c κs =
     let s = l.before.before.before in
     let a = s.args in
     let f = row_at (words_of a.state.now) a.first.0 a.low.0 in
-    (s.requires.0, (omega arith, (omega arith, (s.requires.1.0 (a.first.0 + l.loop.k) (omega arith), row-room-next f l.loop.k a.rows l.loop.invariant (omega arith) s.requires.1.1.1.1))))
+    (s.requires.0, (omega arith, (omega arith, (s.requires.1.0 (a.first.0 + l.loop.k) (omega arith), row_room_next f l.loop.k a.rows l.loop.invariant (omega arith) s.requires.1.1.1.1))))
 
 add-k : tie.Need-overflow-add-k invariant-loop decreases-loop
 add-k c = omega arith
@@ -47,16 +47,16 @@ loop-again c =
     let e = c.before.before in
     let l = e.before.before.before in
     let a = l.before.before.before.args in
-    row-went (row_at (words_of a.state.now) a.first.0 a.low.0) l.loop.k a.rows l.loop.invariant (omega arith) e.emit-parameter.ensures
+    row_went (row_at (words_of a.state.now) a.first.0 a.low.0) l.loop.k a.rows l.loop.invariant (omega arith) e.emit-parameter.ensures
 
 same_length : tie.Need-same-length invariant-loop decreases-loop
-same_length c = same-long c.before.loop.invariant
+same_length c = same_long c.before.loop.invariant
 
 returns : tie.Need-returns invariant-loop decreases-loop
 returns c =
     let l = c.before in
     let a = l.before.before.before.args in
-    row-past (row_at (words_of a.state.now) a.first.0 a.low.0) l.loop.k a.rows l.loop.invariant (omega arith)
+    row_past (row_at (words_of a.state.now) a.first.0 a.low.0) l.loop.k a.rows l.loop.invariant (omega arith)
 
 pub emit-rows-spec : {M : Type 1} → statement M
 emit-rows-spec =

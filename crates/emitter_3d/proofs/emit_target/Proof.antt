@@ -7,33 +7,33 @@ use native.Mathlib.Omega.{arith}
 use lib.ListN.{length, length-append}
 use Rattle.meaning.specs.Words.{words_of}
 use Rattle.meaning.specs.Registers.{cell}
-use Rattle.meaning.specs.Writer.{settingWord}
-use Rattle.emitter_3d.specs.Emitted.{parameterOf, parametersFrom, packetWords, targetWords, Room}
-use Rattle.emitter_3d.proofs.Cells.{parameter-few, parameters-few}
+use Rattle.meaning.specs.Writer.{setting_word}
+use Rattle.emitter_3d.specs.Emitted.{parameter_of, parameters_from, packet_words, target_words, Room}
+use Rattle.emitter_3d.proofs.Cells.{parameter_few, parameters_few}
 use Rattle.emitter_3d.proofs.Runs.{Runs, Done, begun, room_next, went, ended}
-use Rattle.emitter_3d.proofs.Packets.{room-parameters, head-asks, closed}
+use Rattle.emitter_3d.proofs.Packets.{room_parameters, head_asks, closed}
 use borrow.Author.Rules.{rules}
 use Rattle.emitter_3d.proofs.emit_target.Statement.{statement}
 use Rattle.emitter_3d.proofs.emit_target.Tie as tie
 
 -- the parameter of the first row, and those of the others
 abbrev first : tie.Start → List ℕ
-first s = parameterOf (words_of s.args.state.now) (cell 0) (record { 0 = 0x3F })
+first s = parameter_of (words_of s.args.state.now) (cell 0) (record { 0 = 0x3F })
 
 abbrev more : tie.Start → List ℕ
-more s = parametersFrom (words_of s.args.state.now) 1 0x50 3
+more s = parameters_from (words_of s.args.state.now) 1 0x50 3
 
 few : (s : tie.Start) → length (first s ++ more s) ≤ 4
 few s =
     let st = words_of s.args.state.now in
-    omega (arith, length-append (first s) (more s), parameter-few st (cell 0) (record { 0 = 0x3F }), parameters-few st 1 0x50 3)
+    omega (arith, length-append (first s) (more s), parameter_few st (cell 0) (record { 0 = 0x3F }), parameters_few st 1 0x50 3)
 
-room : (s : tie.Start) → 0 + length (packetWords (settingWord 0x01 0x00) (first s ++ more s)) ≤ length s.args.out.now / 4
-unfolding targetWords
+room : (s : tie.Start) → 0 + length (packet_words (setting_word 0x01 0x00) (first s ++ more s)) ≤ length s.args.out.now / 4
+unfolding target_words
 room s = omega (arith, s.requires.1.1)
 
 room-all : (s : tie.Start) → Room s.args.out.now 2 (first s ++ more s)
-room-all s = room-parameters 0x01 0x00 (first s ++ more s) s.args.out.now 0 (room s)
+room-all s = room_parameters 0x01 0x00 (first s ++ more s) s.args.out.now 0 (room s)
 
 start : (s : tie.Start) → Runs (first s ++ more s) s.args.out.now 2 (first s ++ (more s ++ [])) s.args.out.now 2
 start s = begun _ _ _ (ap (λ (ps : List ℕ). first s ++ ps) (sym (append-nil (more s))))
@@ -68,13 +68,13 @@ close-packet-requires : tie.Need-close-packet-requires
 close-packet-requires c κs =
     let e = c.before.before.before in
     let s = e.before.before.before.before.before.before.before.before in
-    head-asks 0x01 0x00 _ _ 0 (room s) (after2 e) (few s) (omega arith) (omega arith)
+    head_asks 0x01 0x00 _ _ 0 (room s) (after2 e) (few s) (omega arith) (omega arith)
 
 same_length : tie.Need-same-length
 same_length c = search rules
 
 returns : tie.Need-returns
-unfolding targetWords
+unfolding target_words
 returns c =
     let k = c.before.before in
     let e = k.before.before.before.before in

@@ -2,8 +2,8 @@
 -- Assumes nothing.
 use mathlib.Core.Path.{refl}
 use Rattle.engine.specs.declared.Engine.{Engine}
-use Rattle.engine.specs.Kept.{standing, opening, pairJudged, behind}
-use Rattle.engine.proofs.Closing.{told_of, close-by}
+use Rattle.engine.specs.Kept.{standing, opening, pair_judged, behind}
+use Rattle.engine.proofs.Closing.{told_of, close_by}
 use mir.Facts.{ltb_yes}
 use borrow.Author.Rules.{rules}
 use Rattle.engine.proofs.close.Statement.{statement}
@@ -22,7 +22,7 @@ returns : tie.Need-returns
 returns c =
     let asked = c.before.before.before.before.before.before.before.before.before.before in
     let e : Engine = asked.before.before.before.args.t1 in
-    close-by (pairJudged e) (standing e) (behind e) (opening e) (told_of e asked.part_of.ensures.0 c.hand-back.ensures.0) c.hand-back.ensures.1
+    close_by (pair_judged e) (standing e) (behind e) (opening e) (told_of e asked.part_of.ensures.0 c.hand-back.ensures.0) c.hand-back.ensures.1
 
 pub close_spec : {M : Type 1} → statement M
 close_spec = tie.close (tie.spec cast-place part-of-requires hand-back-requires returns)

@@ -3,9 +3,9 @@
 use mathlib.Core.Path.{◌≡◌, ap, ◌∙◌}
 use mathlib.Core.Bool.{false≢true}
 use lib.ListN.{length}
-use Rattle.meaning.specs.State.{stateWords}
-use Rattle.pair.proofs.Marks.{restored-length}
-use Rattle.engine.proofs.Closing.{before-pair, pair-bad, pair-good}
+use Rattle.meaning.specs.State.{state_words}
+use Rattle.pair.proofs.Marks.{restored_length}
+use Rattle.engine.proofs.Closing.{before_pair, pair_bad, pair_good}
 use borrow.Author.Rules.{rules}
 use Rattle.engine.proofs.hand_back.Statement.{statement}
 use Rattle.engine.proofs.hand_back.Tie as tie
@@ -20,7 +20,7 @@ returns : tie.Need-returns
 returns c =
     let told = c.before.before.before in
     let a = told.before.args in
-    before-pair a.starts.now a.lasts.now a.numbers.now a.values.now a.before.now a.marks.now a.marked.now a.part
+    before_pair a.starts.now a.lasts.now a.numbers.now a.values.now a.before.now a.marks.now a.marked.now a.part
     told.closing-reason.ensures c.before.before.if1.true c.lay.ensures.0
 
 lay-requires-2 : tie.Need-lay-requires-2
@@ -41,7 +41,7 @@ kept-requires c κs =
 lay-requires-3 : tie.Need-lay-requires-3
 lay-requires-3 c κs =
     let k = c.before.before in
-    ap length k.kept.ensures.1 ∙ restored-length _ _ _ ∙ k.before.before.before.before.lay2.ensures.1
+    ap length k.kept.ensures.1 ∙ restored_length _ _ _ ∙ k.before.before.before.before.lay2.ensures.1
 
 returns-2 : tie.Need-returns-2
 returns-2 c =
@@ -49,7 +49,7 @@ returns-2 c =
     let laid = k.before.before.before.before in
     let told = laid.before.before.before in
     let a = told.before.args in
-    pair-bad a.starts.now a.lasts.now a.numbers.now a.values.now a.before.now a.marks.now a.marked.now a.part
+    pair_bad a.starts.now a.lasts.now a.numbers.now a.values.now a.before.now a.marks.now a.marked.now a.part
     told.closing-reason.ensures laid.before.before.if1.false k.before.before.before.mark-in.ensures k.before.before.mark-in2.ensures
     laid.lay2.ensures.0 k.kept.ensures.0 c.before.before.if2.true c.lay3.ensures.0
 
@@ -59,7 +59,7 @@ returns-3 c =
     let laid = k.before.before.before.before in
     let told = laid.before.before.before in
     let a = told.before.args in
-    pair-good a.starts.now a.lasts.now a.numbers.now a.values.now a.before.now a.marks.now a.marked.now a.part
+    pair_good a.starts.now a.lasts.now a.numbers.now a.values.now a.before.now a.marks.now a.marked.now a.part
     told.closing-reason.ensures laid.before.before.if1.false k.before.before.before.mark-in.ensures k.before.before.mark-in2.ensures
     laid.lay2.ensures.0 k.kept.ensures.0 c.if2.false k.kept.ensures.1
 

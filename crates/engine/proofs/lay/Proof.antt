@@ -4,7 +4,7 @@ use mathlib.Core.Path.{refl}
 use Prim.Native.Nat.{◌≤◌, ◌-◌}
 use native.Mathlib.Omega.{arith}
 use Rattle.meaning.specs.Registers.{cells}
-use Rattle.engine.proofs.Closing.{Laid, none-laid, one-laid, all_laid}
+use Rattle.engine.proofs.Closing.{Laid, none_laid, one_laid, all_laid}
 use Rattle.engine.proofs.lay.Statement.{statement}
 use Rattle.engine.proofs.lay.Tie as tie
 
@@ -15,7 +15,7 @@ abbrev decreases-loop : tie.decreases-loop
 decreases-loop values marks state₀ all c₀ state c = cells - c
 
 loop-holds : tie.Need-loop-init invariant-loop decreases-loop
-loop-holds c = let a = c.before.args in (omega arith, none-laid a.values.now a.marks.now a.state.now (omega arith))
+loop-holds c = let a = c.before.args in (omega arith, none_laid a.values.now a.marks.now a.state.now (omega arith))
 
 mul-state : tie.Need-overflow-mul-state invariant-loop decreases-loop
 mul-state c = omega arith
@@ -51,7 +51,7 @@ loop-again : tie.Need-loop-preserved invariant-loop decreases-loop
 loop-again c =
     let l = c.before.before.before in
     let a = l.before.before.args in
-    (omega arith, one-laid a.values.now a.marks.now l.loop.state l.loop.c l.loop.invariant.1 (omega arith) refl c.mark-in.ensures)
+    (omega arith, one_laid a.values.now a.marks.now l.loop.state l.loop.c l.loop.invariant.1 (omega arith) refl c.mark-in.ensures)
 
 returns : tie.Need-returns invariant-loop decreases-loop
 returns c =

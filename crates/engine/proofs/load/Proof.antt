@@ -8,11 +8,11 @@ use lib.ListN.{take}
 use lib.Seq.{get_or-take, length-take-le}
 use Rattle.meaning.specs.Words.{words_of}
 use Rattle.meaning.specs.Registers.{cells}
-use Rattle.states.proofs.Copied.{Leaves, at_first, one-copied, all-copied}
+use Rattle.states.proofs.Copied.{Leaves, at_first, one_copied, all_copied}
 use Rattle.pair.specs.Marks.{cleared, outside}
-use Rattle.pair.proofs.Marks.{cleared-mark}
+use Rattle.pair.proofs.Marks.{cleared_mark}
 use Rattle.engine.specs.Bits.{packed}
-use Rattle.engine.proofs.Bits.{one-loaded}
+use Rattle.engine.proofs.Bits.{one_loaded}
 use Rattle.engine.proofs.load.Statement.{statement}
 use Rattle.engine.proofs.load.Tie as tie
 
@@ -68,12 +68,12 @@ loop-again c =
     let i = l.loop.c in (
       omega arith,
       (
-        one-copied (take cells ws) l.loop.values i v.value.result (omega (arith, length-take-le cells ws (omega arith)))
+        one_copied (take cells ws) l.loop.values i v.value.result (omega (arith, length-take-le cells ws (omega arith)))
             (v.value.ensures ∙ sym (get_or-take cells ws i 0 (omega arith))) l.loop.invariant.1.0,
         (
-          one-loaded ws i start.args.marked.now l.loop.marked m l.loop.invariant.1.1.0 marked.load-mark.ensures,
-          one-loaded (cleared ws) i start.args.marks.now l.loop.marks
-              (c.before.outside-pair.ensures ∙ ap (outside i) m ∙ sym (cleared-mark ws start.requires.0 i (omega arith))) l.loop.invariant.1.1.1 c.load-mark2.ensures,
+          one_loaded ws i start.args.marked.now l.loop.marked m l.loop.invariant.1.1.0 marked.load-mark.ensures,
+          one_loaded (cleared ws) i start.args.marks.now l.loop.marks
+              (c.before.outside-pair.ensures ∙ ap (outside i) m ∙ sym (cleared_mark ws start.requires.0 i (omega arith))) l.loop.invariant.1.1.1 c.load-mark2.ensures,
         ),
       ),
     )
@@ -84,7 +84,7 @@ returns c =
     let a = l.before.before.args in
     let ws = words_of a.state.now in
     let e : l.loop.c ≡ cells = omega arith in (
-      all-copied (take cells ws) l.loop.values l.loop.c (omega (arith, length-take-le cells ws (omega arith))) l.loop.invariant.1.0,
+      all_copied (take cells ws) l.loop.values l.loop.c (omega (arith, length-take-le cells ws (omega arith))) l.loop.invariant.1.0,
       (
         l.loop.invariant.1.1.0 ∙ ap (λ (n : ℕ). packed ws n a.marked.now) e,
         l.loop.invariant.1.1.1 ∙ ap (λ (n : ℕ). packed (cleared ws) n a.marks.now) e,

@@ -4,7 +4,7 @@ use mathlib.Core.Path.{refl}
 use mathlib.Core.List.{List}
 use Prim.Native.Nat.{ℕ}
 use Rattle.meaning.specs.Words.{words_of}
-use Rattle.engine.proofs.Opening.{refused, is_whole, may-place, opened}
+use Rattle.engine.proofs.Opening.{refused, is_whole, may_place, opened}
 use Rattle.engine.proofs.open.Statement.{statement}
 use Rattle.engine.proofs.open.Tie as tie
 
@@ -36,7 +36,7 @@ place-requires : tie.Need-place-requires
 place-requires c κs =
     let e = c.before.before.before.before in
     let o = e.before in
-    may-place (state o) (grants o) o.before.before.before.well-formed-2.ensures o.before.begin.ensures.0 o.opening-reason.ensures e.if1.false o.before.begin.ensures.1
+    may_place (state o) (grants o) o.before.before.before.well-formed-2.ensures o.before.begin.ensures.0 o.opening-reason.ensures e.if1.false o.before.begin.ensures.1
 
 load-requires : tie.Need-load-requires
 load-requires c κs =

@@ -2,7 +2,7 @@
 -- Assumes nothing.
 use Prim.Native.Nat.{◌%◌}
 use native.Mathlib.Omega.{arith}
-use Rattle.engine.specs.Bits.{withMark}
+use Rattle.engine.specs.Bits.{with_mark}
 use Rattle.engine.proofs.Bits.{one_shifted}
 use borrow.Author.Rules.{rules}
 use Rattle.engine.proofs.set_mark.Statement.{statement}
@@ -27,7 +27,7 @@ element-write-marks : tie.Need-element-write-marks
 element-write-marks c = search rules
 
 returns : tie.Need-returns
-unfolding withMark
+unfolding with_mark
 returns c = let k = c.before.args.cell % 32 in rw (one_shifted k (omega arith))
 
 pub set-mark-spec : {M : Type 1} → statement M

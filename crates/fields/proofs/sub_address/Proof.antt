@@ -6,7 +6,7 @@ use Rattle.fields.proofs.sub_address.Statement.{statement}
 use Rattle.fields.proofs.sub_address.Tie as tie
 
 returns : tie.Need-returns
-unfolding parts.subAddress
+unfolding parts.sub_address
 returns c = refl
 
 pub sub-address-spec : {M : Type 1} → statement M

@@ -6,7 +6,7 @@ use Rattle.fields.proofs.sub_type.Statement.{statement}
 use Rattle.fields.proofs.sub_type.Tie as tie
 
 returns : tie.Need-returns
-unfolding parts.paraSubType
+unfolding parts.para_sub_type
 returns c = refl
 
 pub sub-type-spec : {M : Type 1} → statement M

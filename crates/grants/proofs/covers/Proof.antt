@@ -1,7 +1,7 @@
 -- Two comparisons in the definition's order, and then the memory.
 -- Assumes nothing.
 use Rattle.laws.proofs.Arms.{tests}
-use Rattle.grants.specs.Kept.{spansAt, coversAt}
+use Rattle.grants.specs.Kept.{spans_at, covers_at}
 use native.Mathlib.Omega.{arith}
 use borrow.Author.Rules.{rules}
 use Rattle.grants.proofs.Asking.{in_span}
@@ -15,7 +15,7 @@ element-copy-out-if1 : tie.Need-element-copy-out-if1
 element-copy-out-if1 c = search rules
 
 returns : tie.Need-returns
-unfolding coversAt spansAt
+unfolding covers_at spans_at
 returns c = search tests
 
 mul-if2 : tie.Need-overflow-mul-if2
@@ -25,7 +25,7 @@ element-copy-out-if2 : tie.Need-element-copy-out-if2
 element-copy-out-if2 c = search rules
 
 returns-2 : tie.Need-returns-2
-unfolding coversAt spansAt
+unfolding covers_at spans_at
 returns-2 c = search tests
 
 element-copy-out-lies : tie.Need-element-copy-out-lies

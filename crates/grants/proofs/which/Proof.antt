@@ -4,15 +4,15 @@ use mathlib.Core.Path.{◌≡◌, refl, ◌∙◌}
 use Prim.Native.Nat.{suc, ◌-◌, ◌≤◌, ◌<◌}
 use native.Mathlib.Omega.{arith}
 use borrow.Author.Rules.{rules}
-use Rattle.meaning.specs.Grants.{mostGrants}
-use Rattle.grants.specs.Kept.{whichKept}
-use Rattle.grants.proofs.Asking.{none, hit, missed, from_last, past-last, whole}
+use Rattle.meaning.specs.Grants.{most_grants}
+use Rattle.grants.specs.Kept.{which_kept}
+use Rattle.grants.proofs.Asking.{none, hit, missed, from_last, past_last, whole}
 use Rattle.grants.proofs.which.Statement.{statement}
 use Rattle.grants.proofs.which.Tie as tie
 
 abbrev invariant-loop : tie.invariant-loop
 invariant-loop starts lasts numbers memory address last i₀ i =
-    (i ≤ last) × (last < mostGrants) × (whichKept starts lasts numbers i (suc last - i) memory address ≡ whichKept starts lasts numbers i₀ (suc last - i₀) memory address)
+    (i ≤ last) × (last < most_grants) × (which_kept starts lasts numbers i (suc last - i) memory address ≡ which_kept starts lasts numbers i₀ (suc last - i₀) memory address)
 
 abbrev decreases-loop : tie.decreases-loop
 decreases-loop starts lasts numbers memory address last i₀ i = last - i
@@ -70,7 +70,7 @@ returns-3 c =
 returns-4 : tie.Need-returns-4 invariant-loop decreases-loop
 returns-4 c =
     let l = c.before.before.before in
-    past-last _ _ _ _ _ _ ∙ missed _ _ _ _ _ (omega arith) c.before.covers2.ensures c.if3.false ∙ from_last _ _ _ _ _ l.loop.i _ (omega arith) ∙ l.loop.invariant.2 ∙ whole _ _ _ _ _ _ _ (omega arith)
+    past_last _ _ _ _ _ _ ∙ missed _ _ _ _ _ (omega arith) c.before.covers2.ensures c.if3.false ∙ from_last _ _ _ _ _ l.loop.i _ (omega arith) ∙ l.loop.invariant.2 ∙ whole _ _ _ _ _ _ _ (omega arith)
 
 pub which-spec : {M : Type 1} → statement M
 which-spec =

@@ -3,8 +3,8 @@
 use borrow.Author.Rules.{rules}
 use Rattle.laws.proofs.Arms.{spans}
 use native.Mathlib.Omega.{arith}
-use Rattle.headers.specs.Headers.{groupOf02}
-use Rattle.headers.proofs.Groups.{of-02, of-target, of_none}
+use Rattle.headers.specs.Headers.{group_of02}
+use Rattle.headers.proofs.Groups.{of_02, of_target, of_none}
 use Rattle.headers.proofs.group_of.Statement.{statement}
 use Rattle.headers.proofs.group_of.Tie as tie
 
@@ -27,23 +27,23 @@ sub-t12 : tie.Need-overflow-sub-t12
 sub-t12 c = search rules
 
 returns : tie.Need-returns
-unfolding groupOf02
-returns c = of-02 _ c.before.before.if1.true c.before.sub-type.ensures (search spans)
+unfolding group_of02
+returns c = of_02 _ c.before.before.if1.true c.before.sub-type.ensures (search spans)
 
 returns-2 : tie.Need-returns-2
-unfolding groupOf02
-returns-2 c = of-02 _ c.before.before.before.before.if1.true c.before.before.before.sub-type.ensures (search spans)
+unfolding group_of02
+returns-2 c = of_02 _ c.before.before.before.before.if1.true c.before.before.before.sub-type.ensures (search spans)
 
 returns-3 : tie.Need-returns-3
-unfolding groupOf02
-returns-3 c = of-02 _ c.before.before.before.if1.true c.before.before.sub-type.ensures (search spans)
+unfolding group_of02
+returns-3 c = of_02 _ c.before.before.before.if1.true c.before.before.sub-type.ensures (search spans)
 
 returns-4 : tie.Need-returns-4
-unfolding groupOf02
-returns-4 c = of-02 _ c.before.before.before.before.if1.true c.before.before.before.sub-type.ensures (search spans)
+unfolding group_of02
+returns-4 c = of_02 _ c.before.before.before.before.if1.true c.before.before.before.sub-type.ensures (search spans)
 
 returns-5 : tie.Need-returns-5
-returns-5 c = of-target _ c.if5.true
+returns-5 c = of_target _ c.if5.true
 
 returns-6 : tie.Need-returns-6
 returns-6 c = of_none _ (omega arith) c.before.if1.false c.if5.false

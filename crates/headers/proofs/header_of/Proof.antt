@@ -5,7 +5,7 @@ use native.Mathlib.Omega.{arith}
 use borrow.Author.Rules.{rules}
 use Rattle.laws.proofs.Arms.{spans}
 use Rattle.meaning.proofs.Stretches.{count_small}
-use Rattle.headers.specs.Headers.{headerOf}
+use Rattle.headers.specs.Headers.{header_of}
 use Rattle.headers.proofs.header_of.Statement.{statement}
 use Rattle.headers.proofs.header_of.Tie as tie
 
@@ -25,23 +25,23 @@ scaler-run-requires : tie.Need-scaler-run-requires
 scaler-run-requires c κs = count_small _ c.before.before.count.ensures
 
 returns : tie.Need-returns
-unfolding headerOf
+unfolding header_of
 returns c = rw (← c.before.before.before.before.offset.ensures, ← c.before.before.before.count.ensures) (search spans)
 
 returns-2 : tie.Need-returns-2
-unfolding headerOf
+unfolding header_of
 returns-2 c = rw (← c.before.before.before.offset.ensures, ← c.before.before.count.ensures) (search spans)
 
 returns-3 : tie.Need-returns-3
-unfolding headerOf
+unfolding header_of
 returns-3 c = rw (← c.before.before.before.before.offset.ensures, ← c.before.before.before.count.ensures) (search spans)
 
 returns-4 : tie.Need-returns-4
-unfolding headerOf
+unfolding header_of
 returns-4 c = rw (← c.before.before.before.before.before.offset.ensures, ← c.before.before.before.before.count.ensures) (search spans)
 
 returns-5 : tie.Need-returns-5
-unfolding headerOf
+unfolding header_of
 returns-5 c =
     rw (← c.before.before.before.before.offset.ensures, ← c.before.before.before.count.ensures)
     (elim c.before.if3.branch [ inl a ↦ let l = a.taken in search spans | inr b ↦ let l = b.1.left in search spans ])

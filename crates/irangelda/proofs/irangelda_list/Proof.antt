@@ -1,9 +1,9 @@
 -- 13 where a buffer is bad; else the lister's answer as a number.
 -- Assumes nothing.
 use borrow.Author.Rules.{rules}
-use Rattle.laws.proofs.Arms.{told-true, told-false}
-use Rattle.irangelda.proofs.Places.{list-place}
-use Rattle.irangelda.proofs.Buffers.{list-13, list-answered}
+use Rattle.laws.proofs.Arms.{told_true, told_false}
+use Rattle.irangelda.proofs.Places.{list_place}
+use Rattle.irangelda.proofs.Buffers.{list_13, list_answered}
 use Rattle.irangelda.proofs.irangelda_list.Statement.{statement}
 use Rattle.irangelda.proofs.irangelda_list.Tie as tie
 
@@ -14,13 +14,13 @@ same_length : tie.Need-same-length
 same_length c = search rules
 
 returns : tie.Need-returns
-returns c = let f = c.before in list-13 _ _ (told-false f.text-buffers-fine.ensures c.if1.true)
+returns c = let f = c.before in list_13 _ _ (told_false f.text-buffers-fine.ensures c.if1.true)
 
 list-requires : tie.Need-list-requires
 list-requires c κs = search rules
 
 number-requires : tie.Need-number-requires
-number-requires c κs = rw c.before.before.list.ensures.0 (list-place _ _)
+number-requires c κs = rw c.before.before.list.ensures.0 (list_place _ _)
 
 same-length-2 : tie.Need-same-length-2
 same-length-2 c = search rules
@@ -29,7 +29,7 @@ returns-2 : tie.Need-returns-2
 returns-2 c =
     let l = c.before.before.before in
     let e = l.before.before in
-    list-answered _ _ (told-true e.before.text-buffers-fine.ensures e.if1.false) l.list.ensures.0 l.list.ensures.1 c.number.ensures
+    list_answered _ _ (told_true e.before.text-buffers-fine.ensures e.if1.false) l.list.ensures.0 l.list.ensures.1 c.number.ensures
 
 pub irangelda-list-spec : {M : Type 1} → statement M
 irangelda-list-spec =

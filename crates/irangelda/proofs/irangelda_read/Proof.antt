@@ -5,15 +5,15 @@ use mathlib.Core.Bool.{true}
 use mathlib.Core.List.{[], ◌∷◌}
 use borrow.Author.Rules.{rules}
 use Rattle.laws.specs.Lists.{every}
-use Rattle.laws.proofs.Arms.{told-true, told-false}
-use Rattle.meaning.specs.Exported.{wordBufferFine}
-use Rattle.irangelda.proofs.Buffers.{read-13, read-answered, read_small}
+use Rattle.laws.proofs.Arms.{told_true, told_false}
+use Rattle.meaning.specs.Exported.{word_buffer_fine}
+use Rattle.irangelda.proofs.Buffers.{read_13, read_answered, read_small}
 use Rattle.irangelda.proofs.irangelda_read.Statement.{statement}
 use Rattle.irangelda.proofs.irangelda_read.Tie as tie
 
 -- the buffers of a call that gets as far as the reader are fine
-fine : (w : tie.After-read) → let a = w.before.before.before.before.before.before.before.before.args in every wordBufferFine (a.batch.now ∷ a.grants.now ∷ a.state.now ∷ []) ≡ true
-fine w = let e = w.before.before in told-true e.before.word-buffers-fine.ensures e.if1.false
+fine : (w : tie.After-read) → let a = w.before.before.before.before.before.before.before.before.args in every word_buffer_fine (a.batch.now ∷ a.grants.now ∷ a.state.now ∷ []) ≡ true
+fine w = let e = w.before.before in told_true e.before.word-buffers-fine.ensures e.if1.false
 
 word-buffers-fine-requires : tie.Need-word-buffers-fine-requires
 word-buffers-fine-requires c κs = search rules
@@ -25,7 +25,7 @@ returns : tie.Need-returns
 returns c =
     let f = c.before in
     let a = f.before.before.before.before.before.args in
-    read-13 a.batch.now a.grants.now a.state.now (told-false f.word-buffers-fine.ensures c.if1.true)
+    read_13 a.batch.now a.grants.now a.state.now (told_false f.word-buffers-fine.ensures c.if1.true)
 
 read-requires : tie.Need-read-requires
 read-requires c κs = search rules
@@ -37,7 +37,7 @@ same-length-2 : tie.Need-same-length-2
 same-length-2 c = search rules
 
 returns-2 : tie.Need-returns-2
-returns-2 c = let w = c.before.before.before in read-answered _ _ _ (fine w) w.read.ensures.0 w.read.ensures.1 c.number.ensures
+returns-2 c = let w = c.before.before.before in read_answered _ _ _ (fine w) w.read.ensures.0 w.read.ensures.1 c.number.ensures
 
 pub irangelda-read-spec : {M : Type 1} → statement M
 irangelda-read-spec =

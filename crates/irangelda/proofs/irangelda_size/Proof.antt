@@ -2,11 +2,11 @@
 -- Assumes nothing.
 use borrow.Author.Rules.{rules}
 use native.Mathlib.Omega.{arith}
-use Rattle.laws.proofs.Arms.{told-true, told-false}
+use Rattle.laws.proofs.Arms.{told_true, told_false}
 use Rattle.meaning.specs.Words.{words_of}
-use Rattle.meaning.specs.Exported.{exportedSize}
-use Rattle.sizing.proofs.Sizes.{size-place}
-use Rattle.irangelda.proofs.Buffers.{two-13, two-answered}
+use Rattle.meaning.specs.Exported.{exported_size}
+use Rattle.sizing.proofs.Sizes.{size_place}
+use Rattle.irangelda.proofs.Buffers.{two_13, two_answered}
 use Rattle.irangelda.proofs.irangelda_size.Statement.{statement}
 use Rattle.irangelda.proofs.irangelda_size.Tie as tie
 
@@ -14,8 +14,8 @@ two-buffers-fine-requires : tie.Need-two-buffers-fine-requires
 two-buffers-fine-requires c κs = search rules
 
 returns : tie.Need-returns
-unfolding exportedSize
-returns c = two-13 _ _ _ (told-false c.before.two-buffers-fine.ensures c.if1.true)
+unfolding exported_size
+returns c = two_13 _ _ _ (told_false c.before.two-buffers-fine.ensures c.if1.true)
 
 size-requires : tie.Need-size-requires
 size-requires c κs = search rules
@@ -23,13 +23,13 @@ size-requires c κs = search rules
 number-requires : tie.Need-number-requires
 number-requires c κs =
     let a = c.before.before.before.before.before.args in
-    rw c.size.ensures (omega (arith, size-place (words_of a.state.now) (words_of a.grants.now)))
+    rw c.size.ensures (omega (arith, size_place (words_of a.state.now) (words_of a.grants.now)))
 
 returns-2 : tie.Need-returns-2
-unfolding exportedSize
+unfolding exported_size
 returns-2 c =
     let e = c.before.before in
-    two-answered _ _ _ (told-true e.before.two-buffers-fine.ensures e.if1.false) c.before.size.ensures c.number.ensures
+    two_answered _ _ _ (told_true e.before.two-buffers-fine.ensures e.if1.false) c.before.size.ensures c.number.ensures
 
 pub irangelda-size-spec : {M : Type 1} → statement M
 irangelda-size-spec = tie.close (tie.spec two-buffers-fine-requires returns size-requires number-requires returns-2)

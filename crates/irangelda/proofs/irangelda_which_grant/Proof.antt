@@ -2,12 +2,12 @@
 -- Assumes nothing.
 use borrow.Author.Rules.{rules}
 use native.Mathlib.Omega.{arith}
-use Rattle.laws.proofs.Arms.{told-true, told-false}
+use Rattle.laws.proofs.Arms.{told_true, told_false}
 use Rattle.meaning.specs.Words.{words_of}
 use Rattle.meaning.specs.Registers.{cell}
-use Rattle.meaning.specs.Exported.{exportedWhichGrant}
-use Rattle.numbering.proofs.Answers.{query-place}
-use Rattle.irangelda.proofs.Buffers.{two-13, two-answered}
+use Rattle.meaning.specs.Exported.{exported_which_grant}
+use Rattle.numbering.proofs.Answers.{query_place}
+use Rattle.irangelda.proofs.Buffers.{two_13, two_answered}
 use Rattle.irangelda.proofs.irangelda_which_grant.Statement.{statement}
 use Rattle.irangelda.proofs.irangelda_which_grant.Tie as tie
 
@@ -15,8 +15,8 @@ two-buffers-fine-requires : tie.Need-two-buffers-fine-requires
 two-buffers-fine-requires c κs = search rules
 
 returns : tie.Need-returns
-unfolding exportedWhichGrant
-returns c = two-13 _ _ _ (told-false c.before.two-buffers-fine.ensures c.if1.true)
+unfolding exported_which_grant
+returns c = two_13 _ _ _ (told_false c.before.two-buffers-fine.ensures c.if1.true)
 
 which-grant-requires : tie.Need-which-grant-requires
 which-grant-requires c κs = search rules
@@ -24,13 +24,13 @@ which-grant-requires c κs = search rules
 number-requires : tie.Need-number-requires
 number-requires c κs =
     let a = c.before.before.before.before.before.args in
-    rw c.which-grant.ensures (omega (arith, query-place (words_of a.state.now) (words_of a.grants.now) (cell a.cell)))
+    rw c.which-grant.ensures (omega (arith, query_place (words_of a.state.now) (words_of a.grants.now) (cell a.cell)))
 
 returns-2 : tie.Need-returns-2
-unfolding exportedWhichGrant
+unfolding exported_which_grant
 returns-2 c =
     let e = c.before.before in
-    two-answered _ _ _ (told-true e.before.two-buffers-fine.ensures e.if1.false) c.before.which-grant.ensures c.number.ensures
+    two_answered _ _ _ (told_true e.before.two-buffers-fine.ensures e.if1.false) c.before.which-grant.ensures c.number.ensures
 
 pub irangelda-which-grant-spec : {M : Type 1} → statement M
 irangelda-which-grant-spec =

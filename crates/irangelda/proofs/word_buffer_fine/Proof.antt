@@ -1,8 +1,8 @@
 -- First the size, then the multiple of 4.
 -- Assumes nothing.
 use borrow.Author.Rules.{rules}
-use Rattle.laws.proofs.Arms.{told-true, told-false}
-use Rattle.meaning.specs.Exported.{wordBufferFine}
+use Rattle.laws.proofs.Arms.{told_true, told_false}
+use Rattle.meaning.specs.Exported.{word_buffer_fine}
 use Rattle.irangelda.proofs.word_buffer_fine.Statement.{statement}
 use Rattle.irangelda.proofs.word_buffer_fine.Tie as tie
 
@@ -10,12 +10,12 @@ buffer-fine-requires : tie.Need-buffer-fine-requires
 buffer-fine-requires c κs = search rules
 
 returns : tie.Need-returns
-unfolding wordBufferFine
-returns c = rw (told-false c.before.buffer-fine.ensures c.if1.true)
+unfolding word_buffer_fine
+returns c = rw (told_false c.before.buffer-fine.ensures c.if1.true)
 
 returns-2 : tie.Need-returns-2
-unfolding wordBufferFine
-returns-2 c = rw (told-true c.before.buffer-fine.ensures c.if1.false)
+unfolding word_buffer_fine
+returns-2 c = rw (told_true c.before.buffer-fine.ensures c.if1.false)
 
 pub word-buffer-fine-spec : {M : Type 1} → statement M
 word-buffer-fine-spec = tie.close (tie.spec buffer-fine-requires returns returns-2)

@@ -4,7 +4,7 @@ use mathlib.Core.Path.{◌∙◌}
 use Prim.Native.Nat.{◌+◌, ◌*◌}
 use native.Mathlib.Omega.{arith}
 use borrow.Author.Rules.{rules}
-use Rattle.judging.proofs.Judging.{sample-base, sample-block, block_at, block_none, judged-at, judged-none}
+use Rattle.judging.proofs.Judging.{sample_base, sample_block, block_at, block_none, judged_at, judged_none}
 use Rattle.judging.proofs.judge_sample.Statement.{statement}
 use Rattle.judging.proofs.judge_sample.Tie as tie
 
@@ -18,7 +18,7 @@ filters-reason-requires : tie.Need-filters-reason-requires
 filters-reason-requires c κs = search rules
 
 add-for-cell : tie.Need-overflow-add-for-cell
-add-for-cell c = let i = sample-base c.before.before.before.requires in omega (arith, i.2, i.1)
+add-for-cell c = let i = sample_base c.before.before.before.requires in omega (arith, i.2, i.1)
 
 for-cell-requires-2 : tie.Need-for-cell-requires-2
 for-cell-requires-2 c κs = search rules
@@ -27,7 +27,7 @@ mapping-reason-requires : tie.Need-mapping-reason-requires
 mapping-reason-requires c κs = search rules
 
 add-for-cell-2 : tie.Need-overflow-add-for-cell-2
-add-for-cell-2 c = let i = sample-base c.before.before.before.requires in omega (arith, i.2, i.1)
+add-for-cell-2 c = let i = sample_base c.before.before.before.requires in omega (arith, i.2, i.1)
 
 for-cell-requires-3 : tie.Need-for-cell-requires-3
 for-cell-requires-3 c κs = search rules
@@ -37,21 +37,21 @@ for-cell-requires-4 c κs = search rules
 
 returns : tie.Need-returns
 returns c g =
-    let i = sample-base c.before.before.before.requires in
-    c.for-cell.ensures ∙ judged-at g _ _ (36 + 3 * i.0) (block_at sample-block _ 0 _ (omega arith) (omega arith) (omega arith)) (omega (arith, i.2)) (c.before.levels-reason.ensures g i.0 i.1)
+    let i = sample_base c.before.before.before.requires in
+    c.for-cell.ensures ∙ judged_at g _ _ (36 + 3 * i.0) (block_at sample_block _ 0 _ (omega arith) (omega arith) (omega arith)) (omega (arith, i.2)) (c.before.levels-reason.ensures g i.0 i.1)
 
 returns-2 : tie.Need-returns-2
 returns-2 c g =
-    let i = sample-base c.before.before.before.before.requires in
-    c.for-cell2.ensures ∙ judged-at g _ _ (37 + 3 * i.0) (block_at sample-block _ 1 _ (omega arith) (omega arith) (omega arith)) (omega (arith, i.2)) (c.before.before.filters-reason.ensures g i.0 i.1)
+    let i = sample_base c.before.before.before.before.requires in
+    c.for-cell2.ensures ∙ judged_at g _ _ (37 + 3 * i.0) (block_at sample_block _ 1 _ (omega arith) (omega arith) (omega arith)) (omega (arith, i.2)) (c.before.before.filters-reason.ensures g i.0 i.1)
 
 returns-3 : tie.Need-returns-3
 returns-3 c g =
-    let i = sample-base c.before.before.before.before.requires in
-    c.for-cell3.ensures ∙ judged-at g _ _ (38 + 3 * i.0) (block_at sample-block _ 2 _ (omega arith) (omega arith) (omega arith)) (omega (arith, i.2)) (c.before.before.mapping-reason.ensures g i.0 i.1)
+    let i = sample_base c.before.before.before.before.requires in
+    c.for-cell3.ensures ∙ judged_at g _ _ (38 + 3 * i.0) (block_at sample_block _ 2 _ (omega arith) (omega arith) (omega arith)) (omega (arith, i.2)) (c.before.before.mapping-reason.ensures g i.0 i.1)
 
 returns-4 : tie.Need-returns-4
-returns-4 c g = c.for-cell4.ensures ∙ judged-none g _ (block_none sample-block _ (λ k l e. omega arith))
+returns-4 c g = c.for-cell4.ensures ∙ judged_none g _ (block_none sample_block _ (λ k l e. omega arith))
 
 pub judge-sample-spec : {M : Type 1} → statement M
 judge-sample-spec =

@@ -1,9 +1,9 @@
--- Each sub-address of the group has its row, and no other has one.
+-- Each sub_address of the group has its row, and no other has one.
 -- Assumes nothing.
 use mathlib.Core.Path.{refl, ◌∙◌}
 use native.Mathlib.Omega.{arith}
 use borrow.Author.Rules.{rules}
-use Rattle.judging.proofs.Judging.{target_first, target_at, target_none, judged-at, judged-none}
+use Rattle.judging.proofs.Judging.{target_first, target_at, target_none, judged_at, judged_none}
 use Rattle.judging.proofs.judge_target.Statement.{statement}
 use Rattle.judging.proofs.judge_target.Tie as tie
 
@@ -35,19 +35,19 @@ for-cell-requires-5 : tie.Need-for-cell-requires-5
 for-cell-requires-5 c κs = search rules
 
 returns : tie.Need-returns
-returns c g given = c.for-cell.ensures ∙ judged-at g _ _ 0 (target_first _ (omega arith)) refl (c.before.alpha-constants-reason.ensures g)
+returns c g given = c.for-cell.ensures ∙ judged_at g _ _ 0 (target_first _ (omega arith)) refl (c.before.alpha-constants-reason.ensures g)
 
 returns-2 : tie.Need-returns-2
-returns-2 c g given = c.for-cell2.ensures ∙ judged-at g _ _ 1 (target_at _ 0 (omega arith) (omega arith)) refl (c.before.target-address-reason.ensures g given)
+returns-2 c g given = c.for-cell2.ensures ∙ judged_at g _ _ 1 (target_at _ 0 (omega arith) (omega arith)) refl (c.before.target-address-reason.ensures g given)
 
 returns-3 : tie.Need-returns-3
-returns-3 c g given = c.for-cell3.ensures ∙ judged-at g _ _ 2 (target_at _ 1 (omega arith) (omega arith)) refl (c.before.location-reason.ensures g)
+returns-3 c g given = c.for-cell3.ensures ∙ judged_at g _ _ 2 (target_at _ 1 (omega arith) (omega arith)) refl (c.before.location-reason.ensures g)
 
 returns-4 : tie.Need-returns-4
-returns-4 c g given = c.for-cell4.ensures ∙ judged-at g _ _ 3 (target_at _ 2 (omega arith) (omega arith)) refl (c.before.format-reason.ensures g)
+returns-4 c g given = c.for-cell4.ensures ∙ judged_at g _ _ 3 (target_at _ 2 (omega arith) (omega arith)) refl (c.before.format-reason.ensures g)
 
 returns-5 : tie.Need-returns-5
-returns-5 c g given = c.for-cell5.ensures ∙ judged-none g _ (target_none _ (λ e. omega arith) (λ k l e. omega arith))
+returns-5 c g given = c.for-cell5.ensures ∙ judged_none g _ (target_none _ (λ e. omega arith) (λ k l e. omega arith))
 
 pub judge-target-spec : {M : Type 1} → statement M
 judge-target-spec =

@@ -1,6 +1,6 @@
 -- The first two registers are alike, and the third has a rule.
 -- Assumes nothing.
-use Rattle.judging.proofs.Judging.{of-cell}
+use Rattle.judging.proofs.Judging.{of_cell}
 use native.Mathlib.Omega.{arith}
 use borrow.Author.Rules.{rules}
 use Rattle.judging.proofs.overlay_reason.Statement.{statement}
@@ -16,7 +16,7 @@ returns : tie.Need-returns
 returns c g = c.overlay-reason.ensures g _ (omega arith) (omega arith)
 
 returns-2 : tie.Need-returns-2
-returns-2 c g = of-cell g _ _ 86 (omega arith) (c.alpha-select-reason.ensures g)
+returns-2 c g = of_cell g _ _ 86 (omega arith) (c.alpha-select-reason.ensures g)
 
 pub overlay-reason-spec : {M : Type 1} → statement M
 overlay-reason-spec =

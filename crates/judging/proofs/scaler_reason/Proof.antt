@@ -1,6 +1,6 @@
 -- Each of the seven registers has its row.
 -- Assumes nothing.
-use Rattle.judging.proofs.Judging.{of-cell}
+use Rattle.judging.proofs.Judging.{of_cell}
 use Prim.Native.Nat.{◌+◌}
 use native.Mathlib.Omega.{arith}
 use borrow.Author.Rules.{rules}
@@ -29,25 +29,25 @@ address-reason-requires-2 : tie.Need-address-reason-requires-2
 address-reason-requires-2 c κs = search rules
 
 returns : tie.Need-returns
-returns c g b role s given = of-cell g _ _ b (omega arith) (c.deinterlace-reason.ensures g b role s)
+returns c g b role s given = of_cell g _ _ b (omega arith) (c.deinterlace-reason.ensures g b role s)
 
 returns-2 : tie.Need-returns-2
-returns-2 c g b role s given = of-cell g _ _ (b + 1) (omega arith) (c.sub-picture-reason.ensures g b role s)
+returns-2 c g b role s given = of_cell g _ _ (b + 1) (omega arith) (c.sub-picture-reason.ensures g b role s)
 
 returns-3 : tie.Need-returns-3
-returns-3 c g b role s given = of-cell g _ _ (b + 2) (omega arith) (c.first-address-reason.ensures g b role s given)
+returns-3 c g b role s given = of_cell g _ _ (b + 2) (omega arith) (c.first-address-reason.ensures g b role s given)
 
 returns-4 : tie.Need-returns-4
-returns-4 c g b role s given = of-cell g _ _ (b + 3) (omega arith) (c.address-reason.ensures.0 g b role s given)
+returns-4 c g b role s given = of_cell g _ _ (b + 3) (omega arith) (c.address-reason.ensures.0 g b role s given)
 
 returns-5 : tie.Need-returns-5
-returns-5 c g b role s given = of-cell g _ _ (b + 4) (omega arith) (c.destination-stride-reason.ensures g b role s)
+returns-5 c g b role s given = of_cell g _ _ (b + 4) (omega arith) (c.destination-stride-reason.ensures g b role s)
 
 returns-6 : tie.Need-returns-6
-returns-6 c g b role s given = of-cell g _ _ (b + 5) (omega arith) (c.source-stride-reason.ensures g b role s)
+returns-6 c g b role s given = of_cell g _ _ (b + 5) (omega arith) (c.source-stride-reason.ensures g b role s)
 
 returns-7 : tie.Need-returns-7
-returns-7 c g b role s given = of-cell g _ _ (b + 6) (omega arith) (c.address-reason2.ensures.1 g b role s given)
+returns-7 c g b role s given = of_cell g _ _ (b + 6) (omega arith) (c.address-reason2.ensures.1 g b role s given)
 
 pub scaler-reason-spec : {M : Type 1} → statement M
 scaler-reason-spec =

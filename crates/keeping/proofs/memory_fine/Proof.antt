@@ -7,7 +7,7 @@ use Prim.Native.Nat.{ℕ, zero, suc}
 use native.Mathlib.Omega.{arith}
 use lib.Dec.{leb, eqb}
 use borrow.Author.Tests.{lt-leb}
-use Rattle.meaning.specs.Grants.{memoryFine}
+use Rattle.meaning.specs.Grants.{memory_fine}
 use Rattle.keeping.proofs.memory_fine.Statement.{statement}
 use Rattle.keeping.proofs.memory_fine.Tie as tie
 
@@ -26,15 +26,15 @@ dynamic m true e = rw e
 dynamic m false e = rw e
 
 returns : tie.Need-returns
-unfolding memoryFine
+unfolding memory_fine
 returns c start length reach = local c.before.args.memory (eqb c.before.args.role 1) c.if1.true
 
 returns-2 : tie.Need-returns-2
-unfolding memoryFine
+unfolding memory_fine
 returns-2 c start length reach = no_other c.before.before.args.memory _ c.before.if1.false c.if2.true
 
 returns-3 : tie.Need-returns-3
-unfolding memoryFine
+unfolding memory_fine
 returns-3 c start length reach = dynamic c.before.before.args.memory (eqb c.before.before.args.role 1) (omega arith)
 
 pub memory-fine-spec : {M : Type 1} → statement M

@@ -7,7 +7,7 @@ use Prim.Native.Nat.{ℕ, ◌+◌, ◌≤◌}
 use native.Mathlib.Omega.{arith}
 use lib.ListN.{set}
 use Rattle.grants.specs.Kept.{bearing}
-use Rattle.keeping.proofs.Room.{noted-0, noted-1}
+use Rattle.keeping.proofs.Room.{noted_0, noted_1}
 use borrow.Author.Rules.{rules}
 use Rattle.keeping.proofs.note.Statement.{statement}
 use Rattle.keeping.proofs.note.Tie as tie
@@ -27,7 +27,7 @@ element-write-numbers : tie.Need-element-write-numbers
 element-write-numbers c = search rules
 
 returns : tie.Need-returns
-returns c = let a = c.before.args in (in-0 a.numbers.now a.at a.number a.memory c.if1.true, sym (noted-0 _ _ c.if1.true))
+returns c = let a = c.before.args in (in-0 a.numbers.now a.at a.number a.memory c.if1.true, sym (noted_0 _ _ c.if1.true))
 
 cast-numbers-2 : tie.Need-overflow-cast-numbers-2
 cast-numbers-2 c = search rules
@@ -42,7 +42,7 @@ element-write-bounds : tie.Need-element-write-bounds
 element-write-bounds c = search rules
 
 returns-2 : tie.Need-returns-2
-returns-2 c = let a = c.before.args in (in-1 a.numbers.now a.at a.number a.memory c.if1.false c.before.requires.1.0, sym (noted-1 _ _ c.if1.false))
+returns-2 c = let a = c.before.args in (in-1 a.numbers.now a.at a.number a.memory c.if1.false c.before.requires.1.0, sym (noted_1 _ _ c.if1.false))
 
 pub note-spec : {M : Type 1} → statement M
 note-spec =

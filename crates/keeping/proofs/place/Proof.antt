@@ -10,42 +10,42 @@ use borrow.Author.Tests.{le-leb, lt-leb}
 use lib.Dec.{T}
 use lib.ListN.{length, get_or, drop, set}
 use Rattle.meaning.specs.Words.{words_of}
-use Rattle.meaning.specs.Grants.{Grant, mostGrants, grantsOf, grantsFine}
-use Rattle.meaning.proofs.Bytes.{length-words}
+use Rattle.meaning.specs.Grants.{Grant, most_grants, grants_of, grants_fine}
+use Rattle.meaning.proofs.Bytes.{length_words}
 use Rattle.meaning.proofs.Fitter.{InMemory}
 use Rattle.grants.specs.Kept.{bearing}
 use Rattle.keeping.specs.Keeping as kept
-use Rattle.keeping.specs.Keeping.{Kept, noted, placeAll, beginnings, keptOf}
-use Rattle.numbering.proofs.Grants.{grantAt, grant-read, grants-on, grants-end, fine-list}
-use Rattle.keeping.proofs.Room.{Ready, ready-first, place_kept, place-past, first_fine, first-room, ready-next}
+use Rattle.keeping.specs.Keeping.{Kept, noted, place_all, beginnings, kept_of}
+use Rattle.numbering.proofs.Grants.{grant_at, grant_read, grants_on, grants_end, fine_list}
+use Rattle.keeping.proofs.Room.{Ready, ready_first, place_kept, place_past, first_fine, first_room, ready_next}
 use Rattle.keeping.proofs.place.Statement.{statement}
 use Rattle.keeping.proofs.place.Tie as tie
 
 record Runs (ws starts₀ lasts₀ numbers₀ : List ℕ) (k : Kept) (number i : ℕ) : Type 0 where
-  ready : Ready (grantsOf (drop i ws)) k.bounds
-  placed : placeAll number (grantsOf (drop i ws)) k ≡ keptOf (grantsOf ws) starts₀ lasts₀ numbers₀
+  ready : Ready (grants_of (drop i ws)) k.bounds
+  placed : place_all number (grants_of (drop i ws)) k ≡ kept_of (grants_of ws) starts₀ lasts₀ numbers₀
 
-first : (ws starts lasts numbers bounds : List ℕ) → T (grantsFine ws) → bounds ≡ beginnings (grantsOf ws)
+first : (ws starts lasts numbers bounds : List ℕ) → T (grants_fine ws) → bounds ≡ beginnings (grants_of ws)
     → Runs ws starts lasts numbers (record { starts = starts; lasts = lasts; numbers = numbers; bounds = bounds }) 0 0
-unfolding keptOf
-first ws starts lasts numbers bounds fine begun = rw begun (record { ready = ready-first ws fine; placed = refl })
+unfolding kept_of
+first ws starts lasts numbers bounds fine begun = rw begun (record { ready = ready_first ws fine; placed = refl })
 
 module _ {ws starts₀ lasts₀ numbers₀ : List ℕ} {k : Kept} {number i : ℕ} (runs : Runs ws starts₀ lasts₀ numbers₀ k number i) where
   module _ (h : i + 5 ≤ length ws) where
-    next-ready : Ready (grantAt ws i ∷ grantsOf (drop (i + 5) ws)) k.bounds
-    next-ready = rw (grants-on ws i h) at runs.ready
+    next-ready : Ready (grant_at ws i ∷ grants_of (drop (i + 5) ws)) k.bounds
+    next-ready = rw (grants_on ws i h) at runs.ready
 
-    turn : (after : Kept) → after ≡ kept.place number (grantAt ws i) k → Runs ws starts₀ lasts₀ numbers₀ after (number + 1) (i + 5)
-    unfolding placeAll
+    turn : (after : Kept) → after ≡ kept.place number (grant_at ws i) k → Runs ws starts₀ lasts₀ numbers₀ after (number + 1) (i + 5)
+    unfolding place_all
     turn after e =
         let next : number + 1 ≡ suc number = omega arith in
         rw e (record {
-          ready = ready-next number (grantAt ws i) k (grantsOf (drop (i + 5) ws)) next-ready;
-          placed = rw next (sym (ap (λ (gs : List Grant). placeAll number gs k) (grants-on ws i h)) ∙ runs.placed);
+          ready = ready_next number (grant_at ws i) k (grants_of (drop (i + 5) ws)) next-ready;
+          placed = rw next (sym (ap (λ (gs : List Grant). place_all number gs k) (grants_on ws i h)) ∙ runs.placed);
         })
 
     -- a grant that is kept, by the words as they were read
-    kept-turn : (role start long reach memory : ℕ) → record { role = role; start = start; length = long; reach = reach; memory = memory } ≡ grantAt ws i → reach ≤ long
+    kept-turn : (role start long reach memory : ℕ) → record { role = role; start = start; length = long; reach = reach; memory = memory } ≡ grant_at ws i → reach ≤ long
         → (starts lasts numbers bounds : List ℕ)
         → starts ≡ set k.starts (get_or k.bounds (4 + role) 0) start
         → lasts ≡ set k.lasts (get_or k.bounds (4 + role) 0) (start + (long - reach))
@@ -63,11 +63,11 @@ module _ {ws starts₀ lasts₀ numbers₀ : List ℕ} {k : Kept} {number i : �
         → starts ≡ k.starts → lasts ≡ k.lasts → numbers ≡ k.numbers → bounds ≡ k.bounds
         → Runs ws starts₀ lasts₀ numbers₀ (record { starts = starts; lasts = lasts; numbers = numbers; bounds = bounds }) (number + 1) (i + 5)
     past-turn short starts lasts numbers bounds s l n b =
-        turn _ (rw (s, l, n, b) (sym (place-past number (grantAt ws i) k (lt-leb (get_or ws (i + 3) 0) (get_or ws (i + 2) 0) short))))
+        turn _ (rw (s, l, n, b) (sym (place_past number (grant_at ws i) k (lt-leb (get_or ws (i + 3) 0) (get_or ws (i + 2) 0) short))))
 
-  ended : length ws < i + 5 → k ≡ keptOf (grantsOf ws) starts₀ lasts₀ numbers₀
-  unfolding placeAll
-  ended over = sym (ap (λ (gs : List Grant). placeAll number gs k) (grants-end ws i over)) ∙ runs.placed
+  ended : length ws < i + 5 → k ≡ kept_of (grants_of ws) starts₀ lasts₀ numbers₀
+  unfolding place_all
+  ended over = sym (ap (λ (gs : List Grant). place_all number gs k) (grants_end ws i over)) ∙ runs.placed
 
 abbrev invariant-loop : tie.invariant-loop
 invariant-loop grants starts₀ lasts₀ numbers₀ bounds₀ words number₀ i₀ starts lasts numbers bounds number i =
@@ -87,26 +87,26 @@ now_of l = record { starts = l.loop.starts; lasts = l.loop.lasts; numbers = l.lo
 -- there is a whole grant at i, it is fine, and there is room for it
 module _ (c : tie.In-loop invariant-loop decreases-loop) where
   abbrev g : Grant
-  g = grantAt (ws_of c.before) c.before.loop.i
+  g = grant_at (ws_of c.before) c.before.loop.i
 
   whole : c.before.loop.i + 5 ≤ length (ws_of c.before)
-  whole = omega (arith, length-words c.before.before.before.args.grants.now)
+  whole = omega (arith, length_words c.before.before.before.args.grants.now)
 
   fine-here : InMemory g
   fine-here = first_fine c.before.loop.number g (now_of c.before) _ (next-ready c.before.loop.invariant.3 whole)
 
-  room-here : get_or c.before.loop.bounds (4 + g.role) 0 < mostGrants
-  room-here = first-room c.before.loop.number g (now_of c.before) _ (next-ready c.before.loop.invariant.3 whole)
+  room_here : get_or c.before.loop.bounds (4 + g.role) 0 < most_grants
+  room_here = first_room c.before.loop.number g (now_of c.before) _ (next-ready c.before.loop.invariant.3 whole)
 
 -- the same at the role as it was read
-room-read : (c : tie.After-word3 invariant-loop decreases-loop) → get_or c.before.before.before.before.before.loop.bounds (4 + c.word3.result) 0 < mostGrants
-room-read c = rw c.word3.ensures (room-here c.before.before.before.before)
+room-read : (c : tie.After-word3 invariant-loop decreases-loop) → get_or c.before.before.before.before.before.loop.bounds (4 + c.word3.result) 0 < most_grants
+room-read c = rw c.word3.ensures (room_here c.before.before.before.before)
 
 loop-holds : tie.Need-loop-init invariant-loop decreases-loop
 loop-holds c =
     let start = c.before in
-    let told = fine-list (words_of start.args.grants.now) start.requires.0 in
-    (omega arith, refl, omega (arith, told.0, length-words start.args.grants.now), first _ _ _ _ _ start.requires.0 start.requires.1)
+    let told = fine_list (words_of start.args.grants.now) start.requires.0 in
+    (omega arith, refl, omega (arith, told.0, length_words start.args.grants.now), first _ _ _ _ _ start.requires.0 start.requires.1)
 
 add-word : tie.Need-overflow-add-word invariant-loop decreases-loop
 add-word c = omega arith
@@ -178,14 +178,14 @@ note-requires : tie.Need-note-requires invariant-loop decreases-loop
 note-requires c κs =
     let told = c.before.before in
     let start = told.before.before.before.before.before.before.before.before.before.before in (
-      omega (arith, (fine-list (words_of start.args.grants.now) start.requires.0).1, length-words start.args.grants.now),
+      omega (arith, (fine_list (words_of start.args.grants.now) start.requires.0).1, length_words start.args.grants.now),
       (rw told.word5.ensures (fine-here told.before.before.before.before.before.before.before).memory, room-read told.before.before.before),
     )
 
 add-number : tie.Need-overflow-add-number invariant-loop decreases-loop
 add-number c =
     let start = c.before.before.before.before.before.before in
-    omega (arith, (fine-list (words_of start.args.grants.now) start.requires.0).1, length-words start.args.grants.now)
+    omega (arith, (fine_list (words_of start.args.grants.now) start.requires.0).1, length_words start.args.grants.now)
 
 add-i : tie.Need-overflow-add-i invariant-loop decreases-loop
 add-i c = omega arith
@@ -204,7 +204,7 @@ loop-again c =
       omega arith,
       elim k.branch [
         | inl w ↦
-            let is = grant-read (ws_of l) l.loop.i _ _ _ _ _ w.1.ensures w.3.ensures c.before.before.word.ensures c.before.word2.ensures w.4.ensures in
+            let is = grant_read (ws_of l) l.loop.i _ _ _ _ _ w.1.ensures w.3.ensures c.before.before.word.ensures c.before.word2.ensures w.4.ensures in
             kept-turn runs (whole in-loop) _ _ _ _ _ is w.0.taken k.starts k.lasts k.numbers k.bounds w.8 w.9 (w.10 ∙ w.7.ensures.0) (w.11 ∙ w.7.ensures.1)
         | inr w ↦ past-turn runs (whole in-loop) (omega arith) k.starts k.lasts k.numbers k.bounds w.1 w.2 w.3 w.4
       ],
@@ -213,7 +213,7 @@ loop-again c =
 returns : tie.Need-returns invariant-loop decreases-loop
 returns c =
     let l = c.before in
-    let all = ended l.loop.invariant.3 (omega (arith, length-words l.before.before.args.grants.now)) in
+    let all = ended l.loop.invariant.3 (omega (arith, length_words l.before.before.args.grants.now)) in
     (ap (λ (k : Kept). k.starts) all, (ap (λ (k : Kept). k.lasts) all, (ap (λ (k : Kept). k.numbers) all, ap (λ (k : Kept). k.bounds) all)))
 
 pub place-spec : {M : Type 1} → statement M

@@ -5,7 +5,7 @@ use Prim.Native.Nat.{◌≤◌, ◌-◌}
 use native.Mathlib.Omega.{arith}
 use lib.ListN.{length}
 use Rattle.meaning.specs.ListingReader.{fixed}
-use Rattle.line_places.proofs.Along.{Going, going_start, going-short, agree-done, agree-stopped, agree-next}
+use Rattle.line_places.proofs.Along.{Going, going_start, going_short, agree_done, agree_stopped, agree_next}
 use Rattle.line_places.proofs.agree.Statement.{statement}
 use Rattle.line_places.proofs.agree.Tie as tie
 
@@ -22,7 +22,7 @@ sub-if1 : tie.Need-overflow-sub-if1 invariant-loop decreases-loop
 sub-if1 c = omega arith
 
 returns : tie.Need-returns invariant-loop decreases-loop
-returns c = going-short c.before.before.loop.invariant.1 (omega arith)
+returns c = going_short c.before.before.loop.invariant.1 (omega arith)
 
 add-if2 : tie.Need-overflow-add-if2 invariant-loop decreases-loop
 add-if2 c = omega arith
@@ -36,7 +36,7 @@ shared-slice-read-if2-2 c = omega arith
 returns-2 : tie.Need-returns-2 invariant-loop decreases-loop
 returns-2 c =
     let a = c.before.before.before.before.before in
-    agree-stopped a.before.args.expected.now a.loop.invariant.1 (omega arith) (omega arith) (λ e. omega arith)
+    agree_stopped a.before.args.expected.now a.loop.invariant.1 (omega arith) (omega arith) (λ e. omega arith)
 
 add-i : tie.Need-overflow-add-i invariant-loop decreases-loop
 add-i c = omega arith
@@ -47,10 +47,10 @@ loop-less c = omega arith
 loop-again : tie.Need-loop-preserved invariant-loop decreases-loop
 loop-again c =
     let a = c.before.before.before.before.before in
-    (a.loop.invariant.0, agree-next a.before.args.expected.now a.loop.invariant.1 (omega arith) (omega arith) (omega arith))
+    (a.loop.invariant.0, agree_next a.before.args.expected.now a.loop.invariant.1 (omega arith) (omega arith) (omega arith))
 
 returns-3 : tie.Need-returns-3 invariant-loop decreases-loop
-returns-3 c = agree-done c.before.before.args.expected.now c.before.loop.invariant.1 (omega arith)
+returns-3 c = agree_done c.before.before.args.expected.now c.before.loop.invariant.1 (omega arith)
 
 pub agree-spec : {M : Type 1} → statement M
 agree-spec =

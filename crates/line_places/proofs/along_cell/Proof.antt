@@ -1,7 +1,7 @@
 -- Each kind of cell has its own bytes before the digits, and its number of digits.
 -- Assumes nothing.
 use native.Mathlib.Omega.{arith}
-use Rattle.listings.proofs.Numbers.{line-3D, line-video}
+use Rattle.listings.proofs.Numbers.{line_3D_lem, line_video_lem}
 use borrow.Author.Rules.{rules}
 use Rattle.line_places.proofs.along_cell.Statement.{statement}
 use Rattle.line_places.proofs.along_cell.Tie as tie
@@ -18,7 +18,7 @@ along-line-requires c κs = search rules
 returns : tie.Need-returns
 returns c =
     let e = c.before.before.before-3d.ensures in
-    rw (line-3D c.before.before.before.before.before.args.c (omega arith), ← e) c.along-line.ensures
+    rw (line_3D_lem c.before.before.before.before.before.args.c (omega arith), ← e) c.along-line.ensures
 
 before-video-requires : tie.Need-before-video-requires
 before-video-requires c κs = search rules
@@ -32,7 +32,7 @@ along-line-requires-2 c κs = search rules
 returns-2 : tie.Need-returns-2
 returns-2 c =
     let e = c.before.before.before-video.ensures in
-    rw (line-video c.before.before.before.before.before.args.c (omega arith), ← e) c.along-line2.ensures
+    rw (line_video_lem c.before.before.before.before.before.args.c (omega arith), ← e) c.along-line2.ensures
 
 pub along-cell-spec : {M : Type 1} → statement M
 along-cell-spec =

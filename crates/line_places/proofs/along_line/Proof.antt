@@ -5,7 +5,7 @@ use Prim.Native.Nat.{◌+◌, ◌≤◌}
 use native.Mathlib.Omega.{arith}
 use lib.ListN.{length, replicate}
 use Rattle.meaning.specs.ListingReader.{fixed, any_digit}
-use Rattle.line_places.proofs.Runs.{along-inside, run-left, run-digits, run_short, run-other, run-whole}
+use Rattle.line_places.proofs.Runs.{along_inside, run_left, run_digits, run_short, run_other, run_whole}
 use borrow.Author.Rules.{rules}
 use Rattle.line_places.proofs.along_line.Statement.{statement}
 use Rattle.line_places.proofs.along_line.Tie as tie
@@ -17,7 +17,7 @@ agree-requires c κs = search rules
 agreed-inside : (c : tie.After-agree) → c.before.before.before.args.at + c.agree.result ≤ length c.before.before.before.args.text.now
 agreed-inside c =
     let s = c.before.before.before in
-    (along-inside (map fixed s.args.before.now) s.args.text.now s.args.at c.agree.result s.requires c.agree.ensures).0
+    (along_inside (map fixed s.args.before.now) s.args.text.now s.args.at c.agree.result s.requires c.agree.ensures).0
 
 -- and so do the digits
 digits-inside : (c : tie.After-hex-run)
@@ -25,13 +25,13 @@ digits-inside : (c : tie.After-hex-run)
 digits-inside c =
     let a = c.before.before in
     let s = a.before.before.before in
-    (along-inside (replicate s.args.n any_digit) s.args.text.now (s.args.at + a.agree.result) c.hex-run.result (agreed-inside a) c.hex-run.ensures).0
+    (along_inside (replicate s.args.n any_digit) s.args.text.now (s.args.at + a.agree.result) c.hex-run.result (agreed-inside a) c.hex-run.ensures).0
 
 returns : tie.Need-returns
 returns c =
     let a = c.before in
     let s = a.before.before.before in
-    run-left s.args.text.now s.args.before.now s.args.at s.args.n a.agree.result a.agree.ensures (omega arith)
+    run_left s.args.text.now s.args.before.now s.args.at s.args.n a.agree.result a.agree.ensures (omega arith)
 
 add-hex-run : tie.Need-overflow-add-hex-run
 add-hex-run c = omega (arith, agreed-inside c.before)
@@ -47,7 +47,7 @@ returns-2 c =
     let h = c.before in
     let a = h.before.before in
     let s = a.before.before.before in
-    run-digits s.args.text.now s.args.before.now s.args.at s.args.n a.agree.result a.agree.ensures (omega arith) h.hex-run.result h.hex-run.ensures (omega arith)
+    run_digits s.args.text.now s.args.before.now s.args.at s.args.n a.agree.result a.agree.ensures (omega arith) h.hex-run.result h.hex-run.ensures (omega arith)
 
 add-end : tie.Need-overflow-add-end
 add-end c = omega (arith, agreed-inside c.before.before.before)
@@ -76,7 +76,7 @@ returns-4 c =
     let h = c.before.before.before.before in
     let a = h.before.before in
     let s = a.before.before.before in
-    run-other s.args.text.now s.args.before.now s.args.at s.args.n a.agree.result a.agree.ensures (omega arith) h.hex-run.result h.hex-run.ensures (omega arith) (omega arith) (λ e. omega arith)
+    run_other s.args.text.now s.args.before.now s.args.at s.args.n a.agree.result a.agree.ensures (omega arith) h.hex-run.result h.hex-run.ensures (omega arith) (omega arith) (λ e. omega arith)
 
 add-result-4 : tie.Need-overflow-add-result-4
 add-result-4 c = search rules
@@ -89,7 +89,7 @@ returns-5 c =
     let h = c.before.before.before.before in
     let a = h.before.before in
     let s = a.before.before.before in
-    run-whole s.args.text.now s.args.before.now s.args.at s.args.n a.agree.result a.agree.ensures (omega arith) h.hex-run.result h.hex-run.ensures (omega arith) (omega arith) (omega arith)
+    run_whole s.args.text.now s.args.before.now s.args.at s.args.n a.agree.result a.agree.ensures (omega arith) h.hex-run.result h.hex-run.ensures (omega arith) (omega arith) (omega arith)
 
 pub along-line-spec : {M : Type 1} → statement M
 along-line-spec =

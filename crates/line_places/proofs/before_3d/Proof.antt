@@ -1,6 +1,6 @@
 -- The bytes are those of the cell's name.
 -- Assumes nothing.
-use Rattle.line_places.proofs.Names.{name-3d}
+use Rattle.line_places.proofs.Names.{name_3d_lem}
 use borrow.Author.Rules.{rules}
 use Rattle.line_places.proofs.before_3d.Statement.{statement}
 use Rattle.line_places.proofs.before_3d.Tie as tie
@@ -29,7 +29,7 @@ hex-digit-requires-6 c κs = search rules
 returns : tie.Need-returns
 returns c =
     let named = c.before.before.before.before.before.before.before.before.before.before.before.before.before in
-    name-3d named.before.args.cell named.name_of.result named.name_of.ensures _ _ _ _ _ _
+    name_3d_lem named.before.args.cell named.name_of.result named.name_of.ensures _ _ _ _ _ _
     c.before.before.before.before.before.before.before.before.before.before.hex-digit.ensures
     c.before.before.before.before.before.before.before.before.hex-digit2.ensures
     c.before.before.before.before.before.before.hex-digit3.ensures

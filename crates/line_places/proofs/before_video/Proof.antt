@@ -1,6 +1,6 @@
 -- The bytes are those of the cell's offset.
 -- Assumes nothing.
-use Rattle.line_places.proofs.Names.{name-video}
+use Rattle.line_places.proofs.Names.{name_video_lem}
 use borrow.Author.Rules.{rules}
 use Rattle.line_places.proofs.before_video.Statement.{statement}
 use Rattle.line_places.proofs.before_video.Tie as tie
@@ -23,7 +23,7 @@ hex-digit-requires-4 c κs = search rules
 returns : tie.Need-returns
 returns c =
     let named = c.before.before.before.before.before.before.before.before in
-    name-video named.before.args.cell named.offset-of.result named.offset-of.ensures _ _ _ _
+    name_video_lem named.before.args.cell named.offset-of.result named.offset-of.ensures _ _ _ _
     c.before.before.before.before.before.before.hex-digit.ensures
     c.before.before.before.before.hex-digit2.ensures
     c.before.before.hex-digit3.ensures

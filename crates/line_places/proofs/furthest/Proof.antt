@@ -4,7 +4,7 @@ use Prim.Native.Nat.{◌-◌}
 use native.Mathlib.Omega.{arith}
 use lib.ListN.{drop}
 use borrow.Author.Rules.{rules}
-use Rattle.line_places.proofs.Most.{Found, found_none, found-next, found_all}
+use Rattle.line_places.proofs.Most.{Found, found_none, found_next, found_all}
 use Rattle.line_places.proofs.furthest.Statement.{statement}
 use Rattle.line_places.proofs.furthest.Tie as tie
 
@@ -37,7 +37,7 @@ loop-again : tie.Need-loop-preserved invariant-loop decreases-loop
 loop-again c =
     let l = c.before.before.before in
     let a = l.before.before.args in
-    found-next (drop a.at a.text.now) a.first a.end l.loop.far l.loop.c l.loop.invariant (omega arith) c.before.along-cell.ensures c.larger.ensures
+    found_next (drop a.at a.text.now) a.first a.end l.loop.far l.loop.c l.loop.invariant (omega arith) c.before.along-cell.ensures c.larger.ensures
 
 returns : tie.Need-returns invariant-loop decreases-loop
 returns c =

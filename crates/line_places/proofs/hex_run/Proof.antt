@@ -4,9 +4,9 @@ use Prim.Native.Nat.{◌≤◌, ◌-◌}
 use native.Mathlib.Omega.{arith}
 use lib.ListN.{length, replicate}
 use borrow.Author.Rules.{rules}
-use Rattle.laws.proofs.Arms.{told-true, told-false}
+use Rattle.laws.proofs.Arms.{told_true, told_false}
 use Rattle.meaning.specs.ListingReader.{any_digit}
-use Rattle.line_places.proofs.Along.{Going, going_start, going-short, digits-done, digits-stopped, digits-next}
+use Rattle.line_places.proofs.Along.{Going, going_start, going_short, digits_done, digits_stopped, digits_next}
 use Rattle.line_places.proofs.hex_run.Statement.{statement}
 use Rattle.line_places.proofs.hex_run.Tie as tie
 
@@ -23,7 +23,7 @@ sub-if1 : tie.Need-overflow-sub-if1 invariant-loop decreases-loop
 sub-if1 c = omega arith
 
 returns : tie.Need-returns invariant-loop decreases-loop
-returns c = going-short c.before.before.loop.invariant.1 (omega arith)
+returns c = going_short c.before.before.loop.invariant.1 (omega arith)
 
 add-is-hex : tie.Need-overflow-add-is-hex invariant-loop decreases-loop
 add-is-hex c = omega arith
@@ -37,7 +37,7 @@ is-hex-requires c κs = search rules
 returns-2 : tie.Need-returns-2 invariant-loop decreases-loop
 returns-2 c =
     let a = c.before.before.before.before.before in
-    digits-stopped a.before.before.args.n a.loop.invariant.1 (omega arith) (omega arith) (told-false c.before.is-hex.ensures c.if2.true)
+    digits_stopped a.before.before.args.n a.loop.invariant.1 (omega arith) (omega arith) (told_false c.before.is-hex.ensures c.if2.true)
 
 add-i : tie.Need-overflow-add-i invariant-loop decreases-loop
 add-i c = omega arith
@@ -48,10 +48,10 @@ loop-less c = omega arith
 loop-again : tie.Need-loop-preserved invariant-loop decreases-loop
 loop-again c =
     let a = c.before.before.before.before.before in
-    (a.loop.invariant.0, digits-next a.before.before.args.n a.loop.invariant.1 (omega arith) (omega arith) (told-true c.before.is-hex.ensures c.if2.false))
+    (a.loop.invariant.0, digits_next a.before.before.args.n a.loop.invariant.1 (omega arith) (omega arith) (told_true c.before.is-hex.ensures c.if2.false))
 
 returns-3 : tie.Need-returns-3 invariant-loop decreases-loop
-returns-3 c = digits-done c.before.before.before.args.n c.before.loop.invariant.1 (omega arith)
+returns-3 c = digits_done c.before.before.before.args.n c.before.loop.invariant.1 (omega arith)
 
 pub hex-run-spec : {M : Type 1} → statement M
 hex-run-spec =

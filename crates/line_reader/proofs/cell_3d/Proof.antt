@@ -3,7 +3,7 @@
 use native.Mathlib.Omega.{arith}
 use borrow.Author.Tests.{lt-ltb, le-ltb}
 use Prim.Native.Nat.{◌%◌}
-use Rattle.line_reader.specs.Named.{digitOr16, cell3DOf}
+use Rattle.line_reader.specs.Named.{digit_or_16, cell_3d_of}
 use borrow.Author.Rules.{rules}
 use Rattle.line_reader.proofs.cell_3d.Statement.{statement}
 use Rattle.line_reader.proofs.cell_3d.Tie as tie
@@ -15,10 +15,10 @@ digit-of-requires : tie.Need-digit-of-requires
 digit-of-requires c κs = search rules
 
 returns : tie.Need-returns
-unfolding cell3DOf
+unfolding cell_3d_of
 returns c =
     let a = c.before.before.args in
-    rw (lt-ltb 15 (digitOr16 (a.name % 256)) (omega (arith, c.before.digit-of.ensures)))
+    rw (lt-ltb 15 (digit_or_16 (a.name % 256)) (omega (arith, c.before.digit-of.ensures)))
 
 cast-cell-by : tie.Need-overflow-cast-cell-by
 cast-cell-by c = search rules
@@ -27,11 +27,11 @@ cell-by-requires : tie.Need-cell-by-requires
 cell-by-requires c κs = search rules
 
 returns-2 : tie.Need-returns-2
-unfolding cell3DOf
+unfolding cell_3d_of
 returns-2 c =
     let d = c.before.before in
     let a = d.before.args in
-    rw (le-ltb 15 (digitOr16 (a.name % 256)) (omega (arith, d.digit-of.ensures)), ← d.digit-of.ensures) c.cell-by.ensures
+    rw (le-ltb 15 (digit_or_16 (a.name % 256)) (omega (arith, d.digit-of.ensures)), ← d.digit-of.ensures) c.cell-by.ensures
 
 pub cell-3d-spec : {M : Type 1} → statement M
 cell-3d-spec =

@@ -1,7 +1,7 @@
 -- Each arm is one of the definition's tests.
 -- Assumes nothing.
 use Rattle.laws.proofs.Arms.{tests}
-use Rattle.line_reader.specs.Named.{cell3DBy}
+use Rattle.line_reader.specs.Named.{cell_3d_by}
 use borrow.Author.Rules.{rules}
 use Rattle.line_reader.proofs.cell_by.Statement.{statement}
 use Rattle.line_reader.proofs.cell_by.Tie as tie
@@ -37,55 +37,55 @@ add-result-5 : tie.Need-overflow-add-result-5
 add-result-5 c = search rules
 
 returns : tie.Need-returns
-unfolding cell3DBy
+unfolding cell_3d_by
 returns c = search tests
 
 returns-2 : tie.Need-returns-2
-unfolding cell3DBy
+unfolding cell_3d_by
 returns-2 c = search tests
 
 returns-3 : tie.Need-returns-3
-unfolding cell3DBy
+unfolding cell_3d_by
 returns-3 c = search tests
 
 returns-4 : tie.Need-returns-4
-unfolding cell3DBy
+unfolding cell_3d_by
 returns-4 c = search tests
 
 returns-5 : tie.Need-returns-5
-unfolding cell3DBy
+unfolding cell_3d_by
 returns-5 c = search tests
 
 returns-6 : tie.Need-returns-6
-unfolding cell3DBy
+unfolding cell_3d_by
 returns-6 c = search tests
 
 returns-7 : tie.Need-returns-7
-unfolding cell3DBy
+unfolding cell_3d_by
 returns-7 c = search tests
 
 returns-8 : tie.Need-returns-8
-unfolding cell3DBy
+unfolding cell_3d_by
 returns-8 c = search tests
 
 returns-9 : tie.Need-returns-9
-unfolding cell3DBy
+unfolding cell_3d_by
 returns-9 c = search tests
 
 returns-10 : tie.Need-returns-10
-unfolding cell3DBy
+unfolding cell_3d_by
 returns-10 c = search tests
 
 returns-11 : tie.Need-returns-11
-unfolding cell3DBy
+unfolding cell_3d_by
 returns-11 c = search tests
 
 returns-12 : tie.Need-returns-12
-unfolding cell3DBy
+unfolding cell_3d_by
 returns-12 c = search tests
 
 returns-13 : tie.Need-returns-13
-unfolding cell3DBy
+unfolding cell_3d_by
 returns-13 c = search tests
 
 pub cell-by-spec : {M : Type 1} → statement M

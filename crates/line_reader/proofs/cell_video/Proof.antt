@@ -1,80 +1,80 @@
 -- Each arm has its key, for which the definition computes; the last has none of them.
 -- Assumes nothing.
 use Rattle.laws.proofs.Arms.{tests}
-use Rattle.line_reader.specs.Named.{cellVideoOf}
+use Rattle.line_reader.specs.Named.{cell_video_of}
 use Rattle.line_reader.proofs.cell_video.Statement.{statement}
 use Rattle.line_reader.proofs.cell_video.Tie as tie
 
 returns : tie.Need-returns
-unfolding cellVideoOf
+unfolding cell_video_of
 returns c = rw c.match.keys1
 
 returns-2 : tie.Need-returns-2
-unfolding cellVideoOf
+unfolding cell_video_of
 returns-2 c = rw c.match.keys2
 
 returns-3 : tie.Need-returns-3
-unfolding cellVideoOf
+unfolding cell_video_of
 returns-3 c = rw c.match.keys3
 
 returns-4 : tie.Need-returns-4
-unfolding cellVideoOf
+unfolding cell_video_of
 returns-4 c = rw c.match.keys4
 
 returns-5 : tie.Need-returns-5
-unfolding cellVideoOf
+unfolding cell_video_of
 returns-5 c = rw c.match.keys5
 
 returns-6 : tie.Need-returns-6
-unfolding cellVideoOf
+unfolding cell_video_of
 returns-6 c = rw c.match.keys6
 
 returns-7 : tie.Need-returns-7
-unfolding cellVideoOf
+unfolding cell_video_of
 returns-7 c = rw c.match.keys7
 
 returns-8 : tie.Need-returns-8
-unfolding cellVideoOf
+unfolding cell_video_of
 returns-8 c = rw c.match.keys8
 
 returns-9 : tie.Need-returns-9
-unfolding cellVideoOf
+unfolding cell_video_of
 returns-9 c = rw c.match.keys9
 
 returns-10 : tie.Need-returns-10
-unfolding cellVideoOf
+unfolding cell_video_of
 returns-10 c = rw c.match.keys10
 
 returns-11 : tie.Need-returns-11
-unfolding cellVideoOf
+unfolding cell_video_of
 returns-11 c = rw c.match.keys11
 
 returns-12 : tie.Need-returns-12
-unfolding cellVideoOf
+unfolding cell_video_of
 returns-12 c = rw c.match.keys12
 
 returns-13 : tie.Need-returns-13
-unfolding cellVideoOf
+unfolding cell_video_of
 returns-13 c = rw c.match.keys13
 
 returns-14 : tie.Need-returns-14
-unfolding cellVideoOf
+unfolding cell_video_of
 returns-14 c = rw c.match.keys14
 
 returns-15 : tie.Need-returns-15
-unfolding cellVideoOf
+unfolding cell_video_of
 returns-15 c = rw c.match.keys15
 
 returns-16 : tie.Need-returns-16
-unfolding cellVideoOf
+unfolding cell_video_of
 returns-16 c = rw c.match.keys16
 
 returns-17 : tie.Need-returns-17
-unfolding cellVideoOf
+unfolding cell_video_of
 returns-17 c = rw c.match.keys17
 
 returns-18 : tie.Need-returns-18
-unfolding cellVideoOf
+unfolding cell_video_of
 returns-18 c = search tests
 
 pub cell-video-spec : {M : Type 1} → statement M

@@ -5,7 +5,7 @@ use mathlib.Core.List.{List}
 use Prim.Native.Nat.{ℕ}
 use native.Mathlib.Omega.{arith}
 use lib.ListN.{get_or}
-use Rattle.line_reader.proofs.Digits.{table_at, digit-small}
+use Rattle.line_reader.proofs.Digits.{table_at, digit_small}
 use borrow.Author.Rules.{rules}
 use Rattle.line_reader.proofs.digit_of.Statement.{statement}
 use Rattle.line_reader.proofs.digit_of.Tie as tie
@@ -16,7 +16,7 @@ element-copy-out-result c = search rules
 cast-result : tie.Need-overflow-cast-result
 cast-result c =
     let a = c.before in
-    rw (a.requires, table_at a.args.x (omega arith)) (omega (arith, digit-small a.args.x))
+    rw (a.requires, table_at a.args.x (omega arith)) (omega (arith, digit_small a.args.x))
 
 returns : tie.Need-returns
 returns c =

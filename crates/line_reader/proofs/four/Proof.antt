@@ -1,7 +1,7 @@
 -- The sum of four bytes is their word.
 -- Assumes nothing.
 use native.Mathlib.Omega.{arith}
-use Rattle.line_reader.proofs.Fours.{four-of}
+use Rattle.line_reader.proofs.Fours.{four_of}
 use borrow.Author.Rules.{rules}
 use Rattle.line_reader.proofs.four.Statement.{statement}
 use Rattle.line_reader.proofs.four.Tie as tie
@@ -61,7 +61,7 @@ returns : tie.Need-returns
 returns c =
     let first = c.before.before.before.before.before.before in
     let a = first.before.before.before.args in
-    four-of a.text.now a.at (omega arith)
+    four_of a.text.now a.at (omega arith)
     (omega (arith, first.wide.ensures.0, first.wide.ensures.1))
     (omega (arith, c.before.before.before.before.wide2.ensures.0, c.before.before.before.before.wide2.ensures.1))
     (omega (arith, c.before.before.wide3.ensures.0, c.before.before.wide3.ensures.1))

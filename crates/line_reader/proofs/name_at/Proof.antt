@@ -6,8 +6,8 @@ use native.Mathlib.Omega.{arith}
 use lib.ListN.{take, drop}
 use Rattle.laws.specs.Lists.{All}
 use Rattle.meaning.specs.Words.{Word, bytes_of}
-use Rattle.line_reader.proofs.Fours.{four-on, three-words}
-use Rattle.line_reader.proofs.Names.{no_key, at-3D, at-video}
+use Rattle.line_reader.proofs.Fours.{four_on, three_words}
+use Rattle.line_reader.proofs.Names.{no_key, at_3d, at_video}
 use borrow.Author.Rules.{rules}
 use Rattle.line_reader.proofs.name_at.Statement.{statement}
 use Rattle.line_reader.proofs.name_at.Tie as tie
@@ -45,14 +45,14 @@ module _ (c : tie.After-cell-3d) where
       ≡ bytes_of (c.before.before.before.before.four.result ∷ c.before.before.four2.result ∷ c.before.four3.result ∷ [])
   front =
       let a = c.before.before.before.before.before.before.args in
-      three-words (drop a.at a.text.now) _ _ _ c.before.before.before.before.four.ensures.same
-      (four-on a.text.now a.at 4 c.before.before.four2.ensures) (four-on a.text.now a.at 8 c.before.four3.ensures)
+      three_words (drop a.at a.text.now) _ _ _ c.before.before.before.before.four.ensures.same
+      (four_on a.text.now a.at 4 c.before.before.four2.ensures) (four_on a.text.now a.at 8 c.before.four3.ensures)
 
 returns-2 : tie.Need-returns-2
 returns-2 c =
     let t = c.before in
     let e = t.cell-3d.ensures in
-    rw e (at-3D _ _ _ _ (words t) (front t) (omega arith) (omega (arith, e)))
+    rw e (at_3d _ _ _ _ (words t) (front t) (omega arith) (omega (arith, e)))
 
 cell-video-requires : tie.Need-cell-video-requires
 cell-video-requires c κs = search rules
@@ -60,7 +60,7 @@ cell-video-requires c κs = search rules
 returns-3 : tie.Need-returns-3
 returns-3 c =
     let t = c.before.before in
-    rw c.cell-video.ensures (at-video _ _ _ _ (words t) (front t) (omega arith) (omega (arith, t.cell-3d.ensures)))
+    rw c.cell-video.ensures (at_video _ _ _ _ (words t) (front t) (omega arith) (omega (arith, t.cell-3d.ensures)))
 
 pub name-at-spec : {M : Type 1} → statement M
 name-at-spec =

@@ -6,9 +6,9 @@ use Prim.Native.Nat.{ℕ}
 use native.Mathlib.Omega.{arith}
 use lib.ListN.{drop, length-drop}
 use lib.Seq.{drop-drop}
-use Rattle.laws.proofs.Arms.{told-true, told-false}
+use Rattle.laws.proofs.Arms.{told_true, told_false}
 use Rattle.line_reader.specs.Read.{NameAt, ValueAt}
-use Rattle.line_reader.proofs.Whole.{name-ends, too_short, before-first, past_end, no_room, no_value, too_wide, line-3D, line-video}
+use Rattle.line_reader.proofs.Whole.{name_ends, too_short, before_first, past_end, by_no_room, no_value, too_wide, line_3D_lem, line_video_lem}
 use borrow.Author.Rules.{rules}
 use Rattle.line_reader.proofs.read_line.Statement.{statement}
 use Rattle.line_reader.proofs.read_line.Tie as tie
@@ -34,7 +34,7 @@ returns-2 : tie.Need-returns-2
 returns-2 c =
     let n = c.before.before.before in
     let a = n.before.before.before in
-    before-first _ a.args.first a.args.end a.requires.1.1 c.no-line2.ensures n.name-at.ensures (omega arith)
+    before_first _ a.args.first a.args.end a.requires.1.1 c.no-line2.ensures n.name-at.ensures (omega arith)
 
 no-line-requires-3 : tie.Need-no-line-requires-3
 no-line-requires-3 c κs = search rules
@@ -48,7 +48,7 @@ returns-3 c =
 add-if4 : tie.Need-overflow-add-if4
 add-if4 c =
     let n = c.before.before.before.before.before in
-    omega (arith, name-ends _ n.name-at.ensures (omega (arith, n.before.before.before.requires.1.1)))
+    omega (arith, name_ends _ n.name-at.ensures (omega (arith, n.before.before.before.requires.1.1)))
 
 no-line-requires-4 : tie.Need-no-line-requires-4
 no-line-requires-4 c κs = search rules
@@ -57,7 +57,7 @@ returns-4 : tie.Need-returns-4
 returns-4 c =
     let n = c.before.before.before.before.before.before.before in
     let a = n.before.before.before in
-    no_room _ a.args.first a.args.end a.requires.1.1 c.no-line4.ensures n.name-at.ensures (omega arith)
+    by_no_room _ a.args.first a.args.end a.requires.1.1 c.no-line4.ensures n.name-at.ensures (omega arith)
     (omega (arith, length-drop a.args.at a.args.text.now))
 
 add-value-at : tie.Need-overflow-add-value-at
@@ -83,7 +83,7 @@ returns-5 c =
     let v = c.before.before.before in
     let n = v.before.before.before.before.before.before.before.before in
     let a = n.before.before.before in
-    no_value _ a.args.first a.args.end a.requires.1.1 c.no-line5.ensures n.name-at.ensures (omega arith) (stands v) (told-false refl c.before.if5.true)
+    no_value _ a.args.first a.args.end a.requires.1.1 c.no-line5.ensures n.name-at.ensures (omega arith) (stands v) (told_false refl c.before.if5.true)
 
 no-line-requires-6 : tie.Need-no-line-requires-6
 no-line-requires-6 c κs = search rules
@@ -100,16 +100,16 @@ returns-7 c =
     let v = c.before.before.before.before.before.before in
     let n = v.before.before.before.before.before.before.before.before in
     let a = n.before.before.before in
-    line-3D _ a.args.first a.args.end a.requires.1.1 n.name-at.ensures (omega arith) (omega arith) (omega (arith, length-drop a.args.at a.args.text.now))
-    (stands v) (told-true refl c.before.before.before.before.if5.false) (omega arith) (omega arith)
+    line_3D_lem _ a.args.first a.args.end a.requires.1.1 n.name-at.ensures (omega arith) (omega arith) (omega (arith, length-drop a.args.at a.args.text.now))
+    (stands v) (told_true refl c.before.before.before.before.if5.false) (omega arith) (omega arith)
 
 returns-8 : tie.Need-returns-8
 returns-8 c =
     let v = c.before.before.before.before in
     let n = v.before.before.before.before.before.before.before.before in
     let a = n.before.before.before in
-    line-video _ a.args.first a.args.end a.requires.1.1 n.name-at.ensures (omega (arith, v.before.before.before.before.before.before.if2.false)) (omega arith) (omega (arith, length-drop a.args.at a.args.text.now))
-    (stands v) (told-true refl c.before.before.if5.false) (omega arith)
+    line_video_lem _ a.args.first a.args.end a.requires.1.1 n.name-at.ensures (omega (arith, v.before.before.before.before.before.before.if2.false)) (omega arith) (omega (arith, length-drop a.args.at a.args.text.now))
+    (stands v) (told_true refl c.before.before.if5.false) (omega arith)
 
 pub read-line-spec : {M : Type 1} → statement M
 read-line-spec =

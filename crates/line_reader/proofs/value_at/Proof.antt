@@ -1,7 +1,7 @@
 -- The key, the equals sign, the newline, the digits; each way out is a law of Values.
 -- Assumes nothing.
 use native.Mathlib.Omega.{arith}
-use Rattle.line_reader.proofs.Values.{no_key, no-equals, no-newline, value_of}
+use Rattle.line_reader.proofs.Values.{no_key, no_equals, no_newline, value_of}
 use borrow.Author.Rules.{rules}
 use Rattle.line_reader.proofs.value_at.Statement.{statement}
 use Rattle.line_reader.proofs.value_at.Tie as tie
@@ -31,7 +31,7 @@ returns-2 : tie.Need-returns-2
 returns-2 c =
     let f = c.before.before.before.before in
     let a = f.before.before in
-    no-equals a.args.text.now a.args.at a.requires.1 f.four.ensures c.no-value2.ensures.0 (λ e. omega arith)
+    no_equals a.args.text.now a.args.at a.requires.1 f.four.ensures c.no-value2.ensures.0 (λ e. omega arith)
 
 add-if3 : tie.Need-overflow-add-if3
 add-if3 c = search rules
@@ -46,7 +46,7 @@ returns-3 : tie.Need-returns-3
 returns-3 c =
     let f = c.before.before.before.before.before.before in
     let a = f.before.before in
-    no-newline a.args.text.now a.args.at a.requires.1 f.four.ensures c.no-value3.ensures.0 (λ e. omega arith)
+    no_newline a.args.text.now a.args.at a.requires.1 f.four.ensures c.no-value3.ensures.0 (λ e. omega arith)
 
 add-digits-at : tie.Need-overflow-add-digits-at
 add-digits-at c = search rules

@@ -4,7 +4,7 @@ use native.Mathlib.Omega.{arith}
 use native.Mathlib.Numerals.{add-one}
 use lib.ListN.{length-set}
 use borrow.Author.Rules.{rules}
-use Rattle.lines.proofs.Digits.{pair-at}
+use Rattle.lines.proofs.Digits.{pair_at}
 use Rattle.lines.proofs.put_pair.Statement.{statement}
 use Rattle.lines.proofs.put_pair.Tie as tie
 
@@ -38,7 +38,7 @@ same_length c = search rules
 returns : tie.Need-returns
 returns c =
     let a = c.before.before in
-    rw (add-one a.args.at, ← pair-at a.args.n, a.requires.0)
+    rw (add-one a.args.at, ← pair_at a.args.n, a.requires.0)
 
 pub put-pair-spec : {M : Type 1} → statement M
 put-pair-spec =

@@ -4,8 +4,8 @@ use Prim.Native.Nat.{◌+◌, ◌≤◌}
 use native.Mathlib.Omega.{arith}
 use borrow.Author.Rules.{rules}
 use lib.ListN.{length}
-use Rattle.list_batch.specs.Printed.{refusalLine}
-use Rattle.list_batch.proofs.Puts.{behind, room-behind, five-digits}
+use Rattle.list_batch.specs.Printed.{refusal_line}
+use Rattle.list_batch.proofs.Puts.{behind, room_behind, five_digits}
 use Rattle.list_batch.proofs.put_refusal.Statement.{statement}
 use Rattle.list_batch.proofs.put_refusal.Tie as tie
 
@@ -17,7 +17,7 @@ put-text-requires c κs = search rules
 
 -- the room that is left behind each piece
 room-1 : (t : tie.After-put-text) → t.put-text.result + 18 ≤ length t.put-text.new.0
-room-1 t = room-behind 7 18 (omega arith) t.put-text.ensures t.before.before.before.before.requires
+room-1 t = room_behind 7 18 (omega arith) t.put-text.ensures t.before.before.before.before.requires
 
 put-decimal-requires : tie.Need-put-decimal-requires
 put-decimal-requires c κs = omega (arith, room-1 c.before.before.before)
@@ -25,7 +25,7 @@ put-decimal-requires c κs = omega (arith, room-1 c.before.before.before)
 room-2 : (d : tie.After-put-decimal) → d.put-decimal.result + 13 ≤ length d.put-decimal.new.0
 room-2 d =
     let t = d.before.before.before.before in
-    room-behind 5 13 (five-digits t.before.before.before.before.args.reason) d.put-decimal.ensures (room-1 t)
+    room_behind 5 13 (five_digits t.before.before.before.before.args.reason) d.put-decimal.ensures (room-1 t)
 
 slice-aggregate-put-text-2 : tie.Need-slice-aggregate-put-text-2
 slice-aggregate-put-text-2 c = search rules
@@ -34,7 +34,7 @@ put-text-requires-2 : tie.Need-put-text-requires-2
 put-text-requires-2 c κs = omega (arith, room-2 c.before.before.before.before)
 
 room-3 : (t : tie.After-put-text2) → t.put-text2.result + 6 ≤ length t.put-text2.new.0
-room-3 t = room-behind 7 6 (omega arith) t.put-text2.ensures (room-2 t.before.before.before.before.before)
+room-3 t = room_behind 7 6 (omega arith) t.put-text2.ensures (room-2 t.before.before.before.before.before)
 
 put-decimal-requires-2 : tie.Need-put-decimal-requires-2
 put-decimal-requires-2 c κs = omega (arith, room-3 c.before.before.before)
@@ -43,7 +43,7 @@ room-4 : (d : tie.After-put-decimal2) → d.put-decimal2.result + 1 ≤ length d
 room-4 d =
     let t = d.before.before.before.before in
     let s = t.before.before.before.before.before.before.before.before.before.before.before.before.before in
-    room-behind 5 1 (five-digits s.args.place) d.put-decimal2.ensures (room-3 t)
+    room_behind 5 1 (five_digits s.args.place) d.put-decimal2.ensures (room-3 t)
 
 slice-aggregate-put-text-3 : tie.Need-slice-aggregate-put-text-3
 slice-aggregate-put-text-3 c = search rules
@@ -55,7 +55,7 @@ same_length : tie.Need-same-length
 same_length c = search rules
 
 returns : tie.Need-returns
-unfolding refusalLine
+unfolding refusal_line
 returns c =
     let five = c.before.before in
     let four = five.before.before.before.before.before in

@@ -3,7 +3,7 @@
 use mathlib.Core.Path.{sym, ◌∙◌}
 use borrow.Author.Rules.{rules}
 use Rattle.meaning.specs.State.{empty}
-use Rattle.list_batch.specs.Printed.{emptyBytes}
+use Rattle.list_batch.specs.Printed.{empty_bytes}
 use Rattle.list_batch.proofs.Left.{tells, refused, listed}
 use Rattle.list_batch.proofs.report.Statement.{statement}
 use Rattle.list_batch.proofs.report.Tie as tie
@@ -21,7 +21,7 @@ same_length : tie.Need-same-length
 same_length c = search rules
 
 returns : tie.Need-returns
-unfolding emptyBytes empty
+unfolding empty_bytes empty
 returns c =
     let p = c.before.before in
     let t = p.before.before in
@@ -40,7 +40,7 @@ same-length-2 : tie.Need-same-length-2
 same-length-2 c = search rules
 
 returns-2 : tie.Need-returns-2
-unfolding emptyBytes empty
+unfolding empty_bytes empty
 returns-2 c =
     let l = c.before.before in
     let e = l.before.before.before in

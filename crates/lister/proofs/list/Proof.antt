@@ -6,11 +6,11 @@ use native.Mathlib.Omega.{arith}
 use lib.ListN.{length}
 use borrow.Author.Rules.{rules}
 use Rattle.laws.specs.Lists.{from}
-use Rattle.laws.proofs.Arms.{told-true, told-false}
+use Rattle.laws.proofs.Arms.{told_true, told_false}
 use Rattle.meaning.specs.Words.{words_of}
 use Rattle.meaning.specs.Lister.{digit, hex, listing}
-use Rattle.lines.specs.Lines.{digitPairs}
-use Rattle.lister.proofs.Listing.{bad-state, no_room, listed, whole, few, listing-length, listing-stored}
+use Rattle.lines.specs.Lines.{digit_pairs}
+use Rattle.lister.proofs.Listing.{by_bad_state, by_no_room, listed, whole, few, listing_length, listing_stored}
 use Rattle.lister.proofs.list.Statement.{statement}
 use Rattle.lister.proofs.list.Tie as tie
 
@@ -21,7 +21,7 @@ returns : tie.Need-returns
 returns c =
     let w = c.before in
     let s = w.before.before.before in
-    bad-state (words_of s.args.state.now) s.args.out.now (told-false w.well-formed-2.ensures c.if1.true)
+    by_bad_state (words_of s.args.state.now) s.args.out.now (told_false w.well-formed-2.ensures c.if1.true)
 
 marked-between-requires : tie.Need-marked-between-requires
 marked-between-requires c κs = (omega arith, whole _ c.before.well-formed-2.ensures c.if1.false)
@@ -68,8 +68,8 @@ returns-2 c =
     let w = e.before in
     let s = w.before.before.before in
     let st = words_of s.args.state.now in
-    let need = listing-length st _ _ _ m.before.marked-between.ensures m.marked-between2.ensures d.decimal-length.ensures.0 in
-    no_room st s.args.out.now (told-true w.well-formed-2.ensures e.if1.false) (omega arith)
+    let need = listing_length st _ _ _ m.before.marked-between.ensures m.marked-between2.ensures d.decimal-length.ensures.0 in
+    by_no_room st s.args.out.now (told_true w.well-formed-2.ensures e.if1.false) (omega arith)
 
 add-put-head : tie.Need-overflow-add-put-head
 add-put-head c =
@@ -82,13 +82,13 @@ put-head-requires c κs =
     (omega arith, (c.before.before.decimal-length.ensures.0, omega arith))
 
 put-lines-3d-requires : tie.Need-put-lines-3d-requires
-unfolding digitPairs hex digit from
+unfolding digit_pairs hex digit from
 put-lines-3d-requires c κs =
     let e = c.before.before.before.before.before.before.before.before.before.before in
     (refl, (whole _ e.before.well-formed-2.ensures e.if1.false, (omega arith, omega arith)))
 
 put-lines-video-requires : tie.Need-put-lines-video-requires
-unfolding digitPairs hex digit from
+unfolding digit_pairs hex digit from
 put-lines-video-requires c κs =
     let e = c.before.before.before.before.before.before.before.before.before.before.before.before.before.before.before in
     (refl, (whole _ e.before.well-formed-2.ensures e.if1.false, omega arith))
@@ -108,14 +108,14 @@ returns-3 c =
     let s = w.before.before.before in
     let st = words_of s.args.state.now in
     let out = s.args.out.now in
-    let in-3D = m.before.marked-between.ensures in
-    let in-video = m.marked-between2.ensures in
+    let in_3d = m.before.marked-between.ensures in
+    let in_video = m.marked-between2.ensures in
     let digits = d.decimal-length.ensures.0 in
-    let need = listing-length st _ _ _ in-3D in-video digits in
+    let need = listing_length st _ _ _ in_3d in_video digits in
     let fits : length (listing st) ≤ length out = omega arith in
-    let done = listed st out (told-true w.well-formed-2.ensures e.if1.false) fits in (
+    let done = listed st out (told_true w.well-formed-2.ensures e.if1.false) fits in (
       rw need at done.0,
-      rw (v.put-lines-video.ensures, t.put-lines-3d.ensures, h.put-head.ensures) (listing-stored st _ _ _ in-3D in-video digits out fits ∙ done.1),
+      rw (v.put-lines-video.ensures, t.put-lines-3d.ensures, h.put-head.ensures) (listing_stored st _ _ _ in_3d in_video digits out fits ∙ done.1),
     )
 
 pub list-spec : {M : Type 1} → statement M

@@ -8,7 +8,7 @@ use native.Mathlib.Numerals.{towards_suc}
 use lib.ListN.{length, length-set}
 use borrow.Author.Rules.{rules}
 use Rattle.meaning.specs.Lister.{decimal, digit}
-use Rattle.lister.proofs.Head.{one-digit, two_digits, three-digits}
+use Rattle.lister.proofs.Head.{one_digit, two_digits, three_digits}
 use Rattle.lister.proofs.put_decimal.Statement.{statement}
 use Rattle.lister.proofs.put_decimal.Tie as tie
 
@@ -17,7 +17,7 @@ two : (t : tie.Then2) → let n = t.before.before.before.args.n in decimal n ≡
 two t = two_digits _ t.before.if1.false t.if2.true
 
 three : (t : tie.Else2) → let n = t.before.before.before.args.n in decimal n ≡ digit (n / 100) ∷ digit (n / 10 % 10) ∷ digit (n % 10) ∷ []
-three t = three-digits _ t.before.if1.false t.if2.false
+three t = three_digits _ t.before.if1.false t.if2.false
 
 decimal-digit-requires : tie.Need-decimal-digit-requires
 decimal-digit-requires c κs = search rules
@@ -25,7 +25,7 @@ decimal-digit-requires c κs = search rules
 slice-write-out : tie.Need-slice-write-out
 slice-write-out c =
     let t = c.before in
-    omega (arith, ap length (one-digit t.before.before.args.n t.if1.true))
+    omega (arith, ap length (one_digit t.before.before.args.n t.if1.true))
 
 same_length : tie.Need-same-length
 same_length c = search rules
@@ -33,7 +33,7 @@ same_length c = search rules
 returns : tie.Need-returns
 returns c =
     let t = c.before in
-    rw (one-digit t.before.before.args.n t.if1.true, c.decimal_digit.ensures)
+    rw (one_digit t.before.before.args.n t.if1.true, c.decimal_digit.ensures)
 
 decimal-digit-requires-2 : tie.Need-decimal-digit-requires-2
 decimal-digit-requires-2 c κs = search rules

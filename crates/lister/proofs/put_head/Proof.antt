@@ -3,7 +3,7 @@
 use native.Mathlib.Omega.{arith}
 use lib.ListN.{length-set}
 use borrow.Author.Rules.{rules}
-use Rattle.lister.proofs.Head.{head-pieces}
+use Rattle.lister.proofs.Head.{head_pieces}
 use Rattle.lister.proofs.put_head.Statement.{statement}
 use Rattle.lister.proofs.put_head.Tie as tie
 
@@ -41,7 +41,7 @@ returns : tie.Need-returns
 returns c =
     let d = c.before.before in
     let a = d.before.before.before in
-    rw d.put-decimal.ensures (head-pieces a.args.out.now a.args.n a.args.digits a.requires.1.0)
+    rw d.put-decimal.ensures (head_pieces a.args.out.now a.args.n a.args.digits a.requires.1.0)
 
 pub put-head-spec : {M : Type 1} → statement M
 put-head-spec =

@@ -4,18 +4,18 @@ use mathlib.Core.Logic.{inl, inr}
 use Prim.Native.Nat.{◌-◌}
 use native.Mathlib.Omega.{arith}
 use Rattle.meaning.specs.Words.{words_of}
-use Rattle.meaning.specs.Registers.{firstVideo}
-use Rattle.lines.specs.Lines.{cellLine3D}
-use Rattle.lines.proofs.Pieces.{wide-3D}
-use Rattle.lister.proofs.Lines.{Going, begin, further, passed, fits, stored-line, ended}
+use Rattle.meaning.specs.Registers.{first_video}
+use Rattle.lines.specs.Lines.{cell_line_3d}
+use Rattle.lines.proofs.Pieces.{wide_3d}
+use Rattle.lister.proofs.Lines.{Going, begin, further, passed, fits, stored_line, ended}
 use Rattle.lister.proofs.put_lines_3d.Statement.{statement}
 use Rattle.lister.proofs.put_lines_3d.Tie as tie
 
 abbrev invariant-loop : tie.invariant-loop
-invariant-loop pairs state out₀ start first count left₀ at₀ c₀ out left at c = Going cellLine3D 26 (words_of state) first firstVideo out₀ start out left at c
+invariant-loop pairs state out₀ start first count left₀ at₀ c₀ out left at c = Going cell_line_3d 26 (words_of state) first first_video out₀ start out left at c
 
 abbrev decreases-loop : tie.decreases-loop
-decreases-loop pairs state out₀ start first count left₀ at₀ c₀ out left at c = firstVideo - c
+decreases-loop pairs state out₀ start first count left₀ at₀ c₀ out left at c = first_video - c
 
 loop-holds : tie.Need-loop-init invariant-loop decreases-loop
 loop-holds c = begin (omega arith)
@@ -52,7 +52,7 @@ loop-again c =
     let m = c.before in
     let g = m.before.before.loop.invariant in
     elim c.if1.branch [
-      | inl w ↦ rw (w.6, w.7, w.8) (stored-line g (further g (omega arith)) m.mark.ensures w.0.taken w.2.ensures _ w.3.ensures (wide-3D _ _))
+      | inl w ↦ rw (w.6, w.7, w.8) (stored_line g (further g (omega arith)) m.mark.ensures w.0.taken w.2.ensures _ w.3.ensures (wide_3d _ _))
       | inr w ↦ rw (w.1, w.2, w.3) (passed g (further g (omega arith)) m.mark.ensures w.0.left)
     ]
 

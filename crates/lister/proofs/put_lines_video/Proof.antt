@@ -5,21 +5,21 @@ use Prim.Native.Nat.{◌+◌, ◌-◌, ◌≤◌}
 use native.Mathlib.Omega.{arith}
 use lib.ListN.{length}
 use Rattle.meaning.specs.Words.{words_of}
-use Rattle.meaning.specs.Registers.{firstVideo, endVideo}
-use Rattle.meaning.specs.State.{marked, countIn}
+use Rattle.meaning.specs.Registers.{first_video, end_video}
+use Rattle.meaning.specs.State.{marked, count_in}
 use Rattle.states.proofs.Counted.{count_none}
-use Rattle.lines.specs.Lines.{cellLineVideo}
-use Rattle.lines.proofs.Pieces.{wide-video}
-use Rattle.lister.proofs.Lines.{Going, begin, counted, passed, some, fits, stored-line, ended}
+use Rattle.lines.specs.Lines.{cell_line_video}
+use Rattle.lines.proofs.Pieces.{wide_video}
+use Rattle.lister.proofs.Lines.{Going, begin, counted, passed, some, fits, stored_line, ended}
 use Rattle.lister.proofs.put_lines_video.Statement.{statement}
 use Rattle.lister.proofs.put_lines_video.Tie as tie
 
 abbrev invariant-loop : tie.invariant-loop
 invariant-loop pairs state out₀ start at₀ c₀ out at c =
-    (c ≤ endVideo) × Going cellLineVideo 22 (words_of state) firstVideo endVideo out₀ start out (countIn (marked (words_of state)) c (endVideo - c)) at c
+    (c ≤ end_video) × Going cell_line_video 22 (words_of state) first_video end_video out₀ start out (count_in (marked (words_of state)) c (end_video - c)) at c
 
 abbrev decreases-loop : tie.decreases-loop
-decreases-loop pairs state out₀ start at₀ c₀ out at c = endVideo - c
+decreases-loop pairs state out₀ start at₀ c₀ out at c = end_video - c
 
 loop-holds : tie.Need-loop-init invariant-loop decreases-loop
 loop-holds c = (omega arith, begin (omega arith))
@@ -58,7 +58,7 @@ loop-again c =
     let m = c.before in
     let g = m.before.before.loop.invariant.1 in
     elim c.if1.branch [
-      | inl w ↦ (omega arith, rw (w.6, w.7) (counted (stored-line g (omega arith) m.mark.ensures w.0.taken w.2.ensures _ w.3.ensures (wide-video _ _))))
+      | inl w ↦ (omega arith, rw (w.6, w.7) (counted (stored_line g (omega arith) m.mark.ensures w.0.taken w.2.ensures _ w.3.ensures (wide_video _ _))))
       | inr w ↦ (omega arith, rw (w.1, w.2) (counted (passed g (omega arith) m.mark.ensures w.0.left)))
     ]
 
@@ -69,7 +69,7 @@ returns : tie.Need-returns invariant-loop decreases-loop
 returns c =
     let l = c.before in
     let st = words_of l.before.before.before.args.state.now in
-    ended l.loop.invariant.1 (omega (arith, count_none (marked st) l.loop.c (endVideo - l.loop.c) (omega arith)))
+    ended l.loop.invariant.1 (omega (arith, count_none (marked st) l.loop.c (end_video - l.loop.c) (omega arith)))
 
 pub put-lines-video-spec : {M : Type 1} → statement M
 put-lines-video-spec =

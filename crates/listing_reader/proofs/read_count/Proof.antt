@@ -4,7 +4,7 @@ use Prim.Native.Nat.{◌-◌}
 use native.Mathlib.Omega.{arith}
 use lib.ListN.{length}
 use borrow.Author.Rules.{rules}
-use Rattle.listing_reader.proofs.Counts.{first-none, first-not, first_next, Counting, count-end, count-line, count-not, count-zero, count-great, count_next}
+use Rattle.listing_reader.proofs.Counts.{first_none, first_not, first_next, Counting, count_end, count_line, count_not, count_zero, count_great, count_next}
 use Rattle.listing_reader.proofs.read_count.Statement.{statement}
 use Rattle.listing_reader.proofs.read_count.Tie as tie
 
@@ -21,7 +21,7 @@ returns : tie.Need-returns invariant-loop decreases-loop
 returns c =
     let s = c.before.before.before in
     let e = c.no-count.ensures in
-    rw (e.0, e.1, e.2) (first-none s.args.text.now s.args.start s.requires (omega arith))
+    rw (e.0, e.1, e.2) (first_none s.args.text.now s.args.start s.requires (omega arith))
 
 shared-slice-read-decimal-of : tie.Need-shared-slice-read-decimal-of invariant-loop decreases-loop
 shared-slice-read-decimal-of c = omega arith
@@ -36,7 +36,7 @@ returns-2 : tie.Need-returns-2 invariant-loop decreases-loop
 returns-2 c =
     let s = c.before.before.before.before.before.before in
     let e = c.no-count2.ensures in
-    rw (e.0, e.1, e.2) (first-not s.args.text.now s.args.start (omega arith) (omega (arith, c.before.before.decimal-of.ensures)))
+    rw (e.0, e.1, e.2) (first_not s.args.text.now s.args.start (omega arith) (omega (arith, c.before.before.decimal-of.ensures)))
 
 add_at : tie.Need-overflow-add-at invariant-loop decreases-loop
 add_at c = omega arith
@@ -57,7 +57,7 @@ returns-3 : tie.Need-returns-3 invariant-loop decreases-loop
 returns-3 c =
     let l = c.before.before.before in
     let s = l.before.before.before.before.before.before in
-    count-line s.args.text.now s.args.start l.loop.invariant (omega arith) (omega arith)
+    count_line s.args.text.now s.args.start l.loop.invariant (omega arith) (omega arith)
 
 decimal-of-requires-2 : tie.Need-decimal-of-requires-2 invariant-loop decreases-loop
 decimal-of-requires-2 c κs = search rules
@@ -70,7 +70,7 @@ returns-4 c =
     let l = c.before.before.before.before.before.before in
     let s = l.before.before.before.before.before.before in
     let e = c.no-count3.ensures in
-    rw (e.0, e.1, e.2) (count-not s.args.text.now s.args.start l.loop.invariant (omega arith) (λ e. omega arith) (omega (arith, c.before.before.decimal-of2.ensures)))
+    rw (e.0, e.1, e.2) (count_not s.args.text.now s.args.start l.loop.invariant (omega arith) (λ e. omega arith) (omega (arith, c.before.before.decimal-of2.ensures)))
 
 no-count-requires-4 : tie.Need-no-count-requires-4 invariant-loop decreases-loop
 no-count-requires-4 c κs = search rules
@@ -81,7 +81,7 @@ returns-5 c =
     let l = c.before.before.before.before.before.before.before in
     let s = l.before.before.before.before.before.before in
     let e = c.no-count4.ensures in
-    rw (e.0, e.1, e.2) (count-zero s.args.text.now s.args.start l.loop.invariant (omega arith) (λ e. omega arith) d.result d.ensures (omega arith) (omega arith))
+    rw (e.0, e.1, e.2) (count_zero s.args.text.now s.args.start l.loop.invariant (omega arith) (λ e. omega arith) d.result d.ensures (omega arith) (omega arith))
 
 mul-if6 : tie.Need-overflow-mul-if6 invariant-loop decreases-loop
 mul-if6 c = omega (arith, c.before.before.before.before.before.before.loop.invariant.few)
@@ -98,7 +98,7 @@ returns-6 c =
     let l = c.before.before.before.before.before.before.before.before in
     let s = l.before.before.before.before.before.before in
     let e = c.no-count5.ensures in
-    rw (e.0, e.1, e.2) (count-great s.args.text.now s.args.start l.loop.invariant (omega arith) (λ e. omega arith) d.result d.ensures (omega arith) (λ e. omega arith) (omega arith))
+    rw (e.0, e.1, e.2) (count_great s.args.text.now s.args.start l.loop.invariant (omega arith) (λ e. omega arith) d.result d.ensures (omega arith) (λ e. omega arith) (omega arith))
 
 mul-n : tie.Need-overflow-mul-n invariant-loop decreases-loop
 mul-n c = omega (arith, c.before.before.before.before.before.before.before.loop.invariant.few)
@@ -127,7 +127,7 @@ returns-7 c =
     let l = c.before.before in
     let s = l.before.before.before.before.before.before in
     let e = c.no-count6.ensures in
-    rw (e.0, e.1, e.2) (count-end s.args.text.now s.args.start l.loop.invariant (omega arith))
+    rw (e.0, e.1, e.2) (count_end s.args.text.now s.args.start l.loop.invariant (omega arith))
 
 pub read-count-spec : {M : Type 1} → statement M
 read-count-spec =

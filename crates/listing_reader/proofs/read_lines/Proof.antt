@@ -6,13 +6,13 @@ use native.Mathlib.Omega.{arith}
 use lib.ListN.{length-drop, drop}
 use borrow.Author.Rules.{rules}
 use Rattle.meaning.specs.Registers.{cells}
-use Rattle.line_reader.specs.Named.{digitTable}
-use Rattle.listing_reader.proofs.Loop.{furthest-within, Lined, lined-start, lined-end, lined-more, lined-none, line-inside, lined-next}
+use Rattle.line_reader.specs.Named.{digit_table}
+use Rattle.listing_reader.proofs.Loop.{furthest_within, Lined, lined_start, lined_end, lined_more, lined_none, line_inside, lined_next}
 use Rattle.listing_reader.proofs.read_lines.Statement.{statement}
 use Rattle.listing_reader.proofs.read_lines.Tie as tie
 
 abbrev invariant-loop : tie.invariant-loop
-invariant-loop digits text start n state₀ at₀ left₀ c₀ state at left c = (digits ≡ digitTable) × Lined text start n state₀ at left c state
+invariant-loop digits text start n state₀ at₀ left₀ c₀ state at left c = (digits ≡ digit_table) × Lined text start n state₀ at left c state
 
 abbrev decreases-loop : tie.decreases-loop
 decreases-loop digits text start n state₀ at₀ left₀ c₀ state at left c = left
@@ -20,7 +20,7 @@ decreases-loop digits text start n state₀ at₀ left₀ c₀ state at left c =
 loop-holds : tie.Need-loop-init invariant-loop decreases-loop
 loop-holds c =
     let s = c.before in
-    (s.requires.0, lined-start s.args.text.now s.args.start s.args.n s.args.state.now s.requires.1.0 s.requires.1.1.0 s.requires.1.1.1)
+    (s.requires.0, lined_start s.args.text.now s.args.start s.args.n s.args.state.now s.requires.1.0 s.requires.1.1.0 s.requires.1.1.1)
 
 add-end : tie.Need-overflow-add-end invariant-loop decreases-loop
 add-end c = omega arith
@@ -42,7 +42,7 @@ add-refused : tie.Need-overflow-add-refused invariant-loop decreases-loop
 add-refused c =
     let l = c.before.before.before.before in
     let s = l.before.before in
-    omega (arith, c.furthest.ensures, furthest-within (cells + 1 - l.loop.left - l.loop.c) l.loop.c (drop l.loop.at s.args.text.now), length-drop l.loop.at s.args.text.now, l.loop.invariant.1.inside)
+    omega (arith, c.furthest.ensures, furthest_within (cells + 1 - l.loop.left - l.loop.c) l.loop.c (drop l.loop.at s.args.text.now), length-drop l.loop.at s.args.text.now, l.loop.invariant.1.inside)
 
 refused-requires : tie.Need-refused-requires invariant-loop decreases-loop
 refused-requires c κs = search rules
@@ -52,7 +52,7 @@ returns c =
     let r = c.before.before.before in
     let l = r.before.before in
     let s = l.before.before in
-    lined-none s.args.text.now s.args.start s.args.n s.args.state.now l.loop.invariant.1 (λ e. omega arith) r.read-line.ensures (omega arith) c.before.furthest.ensures c.refused.ensures
+    lined_none s.args.text.now s.args.start s.args.n s.args.state.now l.loop.invariant.1 (λ e. omega arith) r.read-line.ensures (omega arith) c.before.furthest.ensures c.refused.ensures
 
 width-requires : tie.Need-width-requires invariant-loop decreases-loop
 width-requires c κs = search rules
@@ -62,7 +62,7 @@ add_at c =
     let r = c.before.before in
     let l = r.before.before in
     let s = l.before.before in
-    omega (arith, line-inside s.args.text.now s.args.start s.args.n s.args.state.now l.loop.invariant.1 (λ e. omega arith) r.read-line.ensures (omega arith) c.width.ensures)
+    omega (arith, line_inside s.args.text.now s.args.start s.args.n s.args.state.now l.loop.invariant.1 (λ e. omega arith) r.read-line.ensures (omega arith) c.width.ensures)
 
 sub-left : tie.Need-overflow-sub-left invariant-loop decreases-loop
 sub-left c = omega arith
@@ -93,7 +93,7 @@ loop-again c =
     let r = c.before.before in
     let l = r.before.before in
     let s = l.before.before in
-    (l.loop.invariant.0, lined-next s.args.text.now s.args.start s.args.n s.args.state.now l.loop.invariant.1 (λ e. omega arith) r.read-line.ensures (omega arith) c.width.ensures)
+    (l.loop.invariant.0, lined_next s.args.text.now s.args.start s.args.n s.args.state.now l.loop.invariant.1 (λ e. omega arith) r.read-line.ensures (omega arith) c.width.ensures)
 
 refused-requires-2 : tie.Need-refused-requires-2 invariant-loop decreases-loop
 refused-requires-2 c κs = search rules
@@ -102,13 +102,13 @@ returns-2 : tie.Need-returns-2 invariant-loop decreases-loop
 returns-2 c =
     let l = c.before.before.before in
     let s = l.before.before in
-    lined-more s.args.text.now s.args.start s.args.n s.args.state.now l.loop.invariant.1 (omega arith) (λ e. omega arith) c.refused2.ensures
+    lined_more s.args.text.now s.args.start s.args.n s.args.state.now l.loop.invariant.1 (omega arith) (λ e. omega arith) c.refused2.ensures
 
 returns-3 : tie.Need-returns-3 invariant-loop decreases-loop
 returns-3 c =
     let l = c.before.before in
     let s = l.before.before in
-    lined-end s.args.text.now s.args.start s.args.n s.args.state.now l.loop.invariant.1 (omega arith) (omega arith)
+    lined_end s.args.text.now s.args.start s.args.n s.args.state.now l.loop.invariant.1 (omega arith) (omega arith)
 
 pub read-lines-spec : {M : Type 1} → statement M
 read-lines-spec =

@@ -3,7 +3,7 @@
 use mathlib.Core.Path.{sym}
 use lib.Seq.{length-take-le}
 use borrow.Author.Rules.{rules}
-use Rattle.name_grants.proofs.Answered.{named-within}
+use Rattle.name_grants.proofs.Answered.{named_within}
 use Rattle.name_grants.proofs.main.Statement.{statement}
 use Rattle.name_grants.proofs.main.Tie as tie
 
@@ -44,10 +44,10 @@ report-input-requires : tie.Need-report-input-requires
 report-input-requires c κs = search rules
 
 array-share-prefix-out : tie.Need-array-share-prefix-out
-array-share-prefix-out c = let r = c.before.report-input in named-within _ _ _ r.ensures.0 r.ensures.1
+array-share-prefix-out c = let r = c.before.report-input in named_within _ _ _ r.ensures.0 r.ensures.1
 
 slice-aggregate-write-all-2 : tie.Need-slice-aggregate-write-all-2
-slice-aggregate-write-all-2 c = let r = c.before.before.report-input in sym (length-take-le r.result r.new.1.0 (named-within _ _ _ r.ensures.0 r.ensures.1))
+slice-aggregate-write-all-2 c = let r = c.before.before.report-input in sym (length-take-le r.result r.new.1.0 (named_within _ _ _ r.ensures.0 r.ensures.1))
 
 write-all-requires-2 : tie.Need-write-all-requires-2
 write-all-requires-2 c κs = search rules

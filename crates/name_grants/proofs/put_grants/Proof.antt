@@ -5,7 +5,7 @@ use Prim.Native.Nat.{◌-◌, ◌≤◌}
 use native.Mathlib.Omega.{arith}
 use borrow.Author.Rules.{rules}
 use Rattle.meaning.specs.Registers.{cells, cell}
-use Rattle.name_grants.proofs.Places.{place-low, place-told, Going, begin, ended, passed, put}
+use Rattle.name_grants.proofs.Places.{place_low, place_told, Going, begin, ended, passed, put}
 use Rattle.name_grants.proofs.put_grants.Statement.{statement}
 use Rattle.name_grants.proofs.put_grants.Tie as tie
 
@@ -32,7 +32,7 @@ cast-out c =
     let l = c.before.before.before.before in
     let a = l.before.before.before.before.args in
     let p = cell l.loop.c in
-    omega (arith, place-told a.state.now a.grants.now p c.irangelda-which-grant.ensures, place-low a.state.now a.grants.now p)
+    omega (arith, place_told a.state.now a.grants.now p c.irangelda-which-grant.ensures, place_low a.state.now a.grants.now p)
 
 slice-write-out : tie.Need-slice-write-out invariant-loop decreases-loop
 slice-write-out c = let g = c.before.before.before.before.loop.invariant.1 in omega (arith, g.past, g.same)
@@ -53,7 +53,7 @@ loop-again c =
     let a = l.before.before.before.before.args in
     let g = l.loop.invariant.1 in
     elim c.if1.branch [
-      | inl w ↦ (omega arith, rw (w.2, w.3) (put g (omega arith) m.mark.ensures w.0.taken (place-told a.state.now a.grants.now (cell l.loop.c) w.1.ensures)))
+      | inl w ↦ (omega arith, rw (w.2, w.3) (put g (omega arith) m.mark.ensures w.0.taken (place_told a.state.now a.grants.now (cell l.loop.c) w.1.ensures)))
       | inr w ↦ (omega arith, rw (w.1, w.2) (passed g (omega arith) m.mark.ensures w.0.left))
     ]
 

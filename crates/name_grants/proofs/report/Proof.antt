@@ -4,9 +4,9 @@ use mathlib.Core.Path.{sym, ◌∙◌}
 use native.Mathlib.Omega.{arith}
 use borrow.Author.Rules.{rules}
 use Rattle.meaning.specs.State.{empty}
-use Rattle.name_grants.specs.Named.{emptyBytes, stateLeft}
-use Rattle.name_grants.proofs.Left.{state-formed, state-size}
-use Rattle.name_grants.proofs.Told.{told-few}
+use Rattle.name_grants.specs.Named.{empty_bytes, state_left}
+use Rattle.name_grants.proofs.Left.{state_formed, state_size}
+use Rattle.name_grants.proofs.Told.{told_few}
 use Rattle.name_grants.proofs.Answered.{number_small, tells, refused, taken}
 use Rattle.name_grants.proofs.report.Statement.{statement}
 use Rattle.name_grants.proofs.report.Tie as tie
@@ -27,7 +27,7 @@ same_length : tie.Need-same-length
 same_length c = search rules
 
 returns : tie.Need-returns
-unfolding emptyBytes empty
+unfolding empty_bytes empty
 returns c =
     let w = c.before.before.before in
     let r = w.before.before.before in
@@ -47,7 +47,7 @@ part-put-state-end : tie.Need-slice-bounds-put-state-end
 part-put-state-end c = search rules
 
 put-state-requires : tie.Need-put-state-requires
-unfolding emptyBytes empty stateLeft
+unfolding empty_bytes empty state_left
 put-state-requires c κs =
     let e = c.before.before in
     let w = e.before.before.before in
@@ -55,19 +55,19 @@ put-state-requires c κs =
     let s = r.before.before.before.before.before in
     let i = r.irangelda-read in
     let done = sym (tells s.args.grants.now s.args.batch.now s.args.out.now s.requires i.result i.ensures.0 w.put_word.new.0 w.put_word.ensures) ∙ e.if1.false in
-    (rw i.ensures.1 (state-size s.args.grants.now s.args.batch.now done), (rw i.ensures.1 (state-formed s.args.grants.now s.args.batch.now done), search rules))
+    (rw i.ensures.1 (state_size s.args.grants.now s.args.batch.now done), (rw i.ensures.1 (state_formed s.args.grants.now s.args.batch.now done), search rules))
 
 add-result : tie.Need-overflow-add-result
 add-result c =
     let p = c.before.before in
     let r = p.before.before.before.before.before.before.before.before.before in
-    omega (arith, p.put-state.ensures.0, told-few r.irangelda-read.new.1.1.0 r.before.before.before.before.before.args.grants.now)
+    omega (arith, p.put-state.ensures.0, told_few r.irangelda-read.new.1.1.0 r.before.before.before.before.before.args.grants.now)
 
 same-length-2 : tie.Need-same-length-2
 same-length-2 c = search rules
 
 returns-2 : tie.Need-returns-2
-unfolding emptyBytes empty stateLeft
+unfolding empty_bytes empty state_left
 returns-2 c =
     let p = c.before.before in
     let e = p.before.before.before in

@@ -1,7 +1,7 @@
 -- The input is cut behind its first word, and behind the grant list.
 -- Assumes nothing.
 use borrow.Author.Rules.{rules}
-use Rattle.name_grants.proofs.Parts.{neither, grants-part, batch-part}
+use Rattle.name_grants.proofs.Parts.{neither, grants_part, batch_part}
 use Rattle.name_grants.proofs.report_input.Statement.{statement}
 use Rattle.name_grants.proofs.report_input.Tie as tie
 
@@ -60,7 +60,7 @@ returns-2 c =
     let n = r.before.before.before.before in
     let input = n.before.before.before.before.args.input.now in
     let cut = n.list_length.ensures in
-    rw (← grants-part input n.list_length.result cut, ← batch-part input n.list_length.result cut) r.report2.ensures
+    rw (← grants_part input n.list_length.result cut, ← batch_part input n.list_length.result cut) r.report2.ensures
 
 pub report-input-spec : {M : Type 1} → statement M
 report-input-spec =

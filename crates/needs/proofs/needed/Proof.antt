@@ -4,11 +4,11 @@ use mathlib.Core.Path.{◌≡◌}
 use Prim.Native.Nat.{◌+◌, ◌*◌, ◌≤◌}
 use native.Mathlib.Omega.{arith}
 use Rattle.meaning.specs.Words.{words_of}
-use Rattle.meaning.specs.Registers.{sections3D}
+use Rattle.meaning.specs.Registers.{sections_3d}
 use Rattle.meaning.specs.State.{marked}
-use Rattle.meaning.specs.Writer.{mostWritten, needAmong, needFor}
-use Rattle.meaning.proofs.Writing.{need-at-most}
-use Rattle.needs.proofs.Series.{need-3D, need-all}
+use Rattle.meaning.specs.Writer.{most_written, need_among, need_for}
+use Rattle.meaning.proofs.Writing.{need_at_most}
+use Rattle.needs.proofs.Series.{need_3d, need_all}
 use borrow.Author.Rules.{rules}
 use Rattle.needs.proofs.needed.Statement.{statement}
 use Rattle.needs.proofs.needed.Tie as tie
@@ -28,11 +28,11 @@ marked-between-requires c κs = search rules
 -- the sums are the needs: of the 3D sections,
 sum-3D : (c : tie.After-series-need3) →
     c.before.before.series-need.result + c.before.series-need2.result + c.series-need3.result
-    ≡ needAmong (marked (words_of c.before.before.before.before.args.state.now)) sections3D
+    ≡ need_among (marked (words_of c.before.before.before.before.args.state.now)) sections_3d
 sum-3D c =
     omega (
       arith,
-      need-3D (marked (words_of c.before.before.before.before.args.state.now)),
+      need_3d (marked (words_of c.before.before.before.before.args.state.now)),
       c.series-need3.ensures,
       c.before.series-need2.ensures,
       c.before.before.series-need.ensures,
@@ -41,10 +41,10 @@ sum-3D c =
 -- and of all, which is small
 sum : (c : tie.After-marked-between) →
     let chosen = marked (words_of c.before.before.before.before.before.args.state.now) in
-    (needAmong chosen sections3D + 2 * c.marked-between.result ≡ needFor chosen) × (needFor chosen ≤ mostWritten)
+    (need_among chosen sections_3d + 2 * c.marked-between.result ≡ need_for chosen) × (need_for chosen ≤ most_written)
 sum c =
     let chosen = marked (words_of c.before.before.before.before.before.args.state.now) in
-    (omega (arith, need-all chosen, c.marked-between.ensures), need-at-most chosen)
+    (omega (arith, need_all chosen, c.marked-between.ensures), need_at_most chosen)
 
 mul-video : tie.Need-overflow-mul-video
 mul-video c = omega (arith, sum c)

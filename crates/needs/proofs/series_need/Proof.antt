@@ -5,10 +5,10 @@ use Prim.Native.Nat.{◌+◌, ◌*◌, ◌-◌, ◌≤◌}
 use native.Mathlib.Omega.{arith}
 use Rattle.meaning.specs.Words.{words_of}
 use Rattle.meaning.specs.Registers.{cells}
-use Rattle.meaning.specs.State.{marked, countIn}
-use Rattle.meaning.proofs.Writing.{count-few, in-series}
-use Rattle.needs.specs.Series.{seriesNeed}
-use Rattle.needs.proofs.Series.{need-few, series-next, series-none}
+use Rattle.meaning.specs.State.{marked, count_in}
+use Rattle.meaning.proofs.Writing.{count_few, in_series}
+use Rattle.needs.specs.Series.{series_need}
+use Rattle.needs.proofs.Series.{need_few, series_next, series_none}
 use Rattle.needs.proofs.series_need.Statement.{statement}
 use Rattle.needs.proofs.series_need.Tie as tie
 
@@ -16,7 +16,7 @@ abbrev invariant-loop : tie.invariant-loop
 invariant-loop state first rows count need₀ n₀ need n =
     (n ≤ count)
     × (need ≤ (cells + 2) * n)
-    × (need + seriesNeed (marked (words_of state)) first rows n (count - n) ≡ seriesNeed (marked (words_of state)) first rows 0 count)
+    × (need + series_need (marked (words_of state)) first rows n (count - n) ≡ series_need (marked (words_of state)) first rows 0 count)
 
 abbrev decreases-loop : tie.decreases-loop
 decreases-loop state first rows count need₀ n₀ need n = count - n
@@ -29,7 +29,7 @@ loop-holds c =
 
 -- the group lies within the series
 here : (c : tie.In-loop invariant-loop decreases-loop) → let l = c.before in let a = l.before.before.args in a.first + a.rows * l.loop.n + a.rows ≤ cells
-here c = let l = c.before in let s = l.before.before in in-series s.args.first s.args.rows s.args.count l.loop.n cells s.requires.1.0 c.loop-test.true
+here c = let l = c.before in let s = l.before.before in in_series s.args.first s.args.rows s.args.count l.loop.n cells s.requires.1.0 c.loop-test.true
 
 mul-group-need : tie.Need-overflow-mul-group-need invariant-loop decreases-loop
 mul-group-need c = omega (arith, here c)
@@ -47,7 +47,7 @@ near c =
     let a = l.before.before.args in
     let chosen = marked (words_of a.state.now) in
     let first = a.first + a.rows * l.loop.n in
-    omega (arith, c.group-need.ensures, need-few (countIn chosen first a.rows), count-few chosen first a.rows, here c.before)
+    omega (arith, c.group-need.ensures, need_few (count_in chosen first a.rows), count_few chosen first a.rows, here c.before)
 
 add-need : tie.Need-overflow-add-need invariant-loop decreases-loop
 add-need c = omega (arith, near c)
@@ -64,14 +64,14 @@ loop-again c =
     let a = l.before.before.args in (
       omega arith,
       omega (arith, near c),
-      omega (arith, c.group-need.ensures, series-next (marked (words_of a.state.now)) a.first a.rows l.loop.n a.count (omega arith)),
+      omega (arith, c.group-need.ensures, series_next (marked (words_of a.state.now)) a.first a.rows l.loop.n a.count (omega arith)),
     )
 
 returns : tie.Need-returns invariant-loop decreases-loop
 returns c =
     let l = c.before in
     let a = l.before.before.args in
-    omega (arith, series-none (marked (words_of a.state.now)) a.first a.rows l.loop.n (a.count - l.loop.n) (omega arith))
+    omega (arith, series_none (marked (words_of a.state.now)) a.first a.rows l.loop.n (a.count - l.loop.n) (omega arith))
 
 pub series-need-spec : {M : Type 1} → statement M
 series-need-spec =

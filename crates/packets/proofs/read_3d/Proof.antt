@@ -5,9 +5,9 @@ use native.Mathlib.Omega.{arith}
 use borrow.Author.Rules.{rules}
 use Rattle.meaning.specs.Words.{words_of}
 use Rattle.headers.specs.Told.{Leads}
-use Rattle.bodies.proofs.Bodies.{among-words}
+use Rattle.bodies.proofs.Bodies.{among_words}
 use Rattle.headers.proofs.Groups.{unnamed}
-use Rattle.packets.proofs.Headed.{each, leads, settled, unsettled, part-inside, target-part}
+use Rattle.packets.proofs.Headed.{each, leads, settled, unsettled, part_inside, target_part}
 use Rattle.packets.proofs.read_3d.Statement.{statement}
 use Rattle.packets.proofs.read_3d.Tie as tie
 
@@ -38,7 +38,7 @@ returns-2 : tie.Need-returns-2
 returns-2 c =
     let s = c.before.before.before.before.before.before in
     let bad = unnamed _ c.before.before.Group-of.ensures c.enum_told.given.1 in
-    each (λ g k. unsettled g (words_of s.args.batch.now) s.args.at c.before.before.before.word.ensures _ (omega arith) (among-words s.args.batch.now _ s.requires.0.1) _ bad)
+    each (λ g k. unsettled g (words_of s.args.batch.now) s.args.at c.before.before.before.word.ensures _ (omega arith) (among_words s.args.batch.now _ s.requires.0.1) _ bad)
 
 part-of-requires : tie.Need-part-of-requires
 part-of-requires c κs = search rules
@@ -49,14 +49,14 @@ add-take-parameters c = search rules
 take-parameters-requires : tie.Need-take-parameters-requires
 take-parameters-requires c κs =
     let s = c.before.before.before.before.before.before.before in
-    let given = part-inside s.args.bounds.now 1 c.before.part_of.ensures s.requires.1 (omega arith) in
+    let given = part_inside s.args.bounds.now 1 c.before.part_of.ensures s.requires.1 (omega arith) in
     ((omega arith, s.requires.0.1), ((named c.before.before).group, given))
 
 returns-3 : tie.Need-returns-3
 returns-3 c =
     let s = c.before.before.before.before.before.before.before.before in
     let own = named c.before.before.before in
-    each (λ g k. let given = target-part s.args.bounds.now c.before.before.part_of.ensures g _ _ k in settled g (words_of s.args.batch.now) s.args.at c.before.before.before.before.before.word.ensures _ (omega arith) (among-words s.args.batch.now _ s.requires.0.1) _ own.fine (c.take-parameters.ensures.0 g _ own given, c.take-parameters.ensures.1 g _ own given))
+    each (λ g k. let given = target_part s.args.bounds.now c.before.before.part_of.ensures g _ _ k in settled g (words_of s.args.batch.now) s.args.at c.before.before.before.before.before.word.ensures _ (omega arith) (among_words s.args.batch.now _ s.requires.0.1) _ own.fine (c.take-parameters.ensures.0 g _ own given, c.take-parameters.ensures.1 g _ own given))
 
 pub read-3d-spec : {M : Type 1} → statement M
 read-3d-spec =

@@ -5,9 +5,9 @@ use native.Mathlib.Omega.{arith}
 use lib.Seq.{slice}
 use borrow.Author.Rules.{rules}
 use Rattle.meaning.specs.Words.{words_of}
-use Rattle.rows_video.proofs.Scalers.{is-scaler, scaler-role}
+use Rattle.rows_video.proofs.Scalers.{is_scaler, scaler_role}
 use Rattle.headers.proofs.Openings.{told}
-use Rattle.packets.proofs.Headed.{each, head-refused, head_passed, scaler-part, part-inside}
+use Rattle.packets.proofs.Headed.{each, head_refused, head_passed, scaler_part, part_inside}
 use Rattle.packets.proofs.read_headed.Statement.{statement}
 use Rattle.packets.proofs.read_headed.Tie as tie
 
@@ -42,7 +42,7 @@ enum-known-opened-3 : tie.Need-enum-known-opened-3
 enum-known-opened-3 c = search rules
 
 part-of-requires : tie.Need-part-of-requires
-part-of-requires c κs = let o = c.before.before in scaler-role (told _ o.before.before.header_of.ensures o.opened3.given.1).1
+part-of-requires c κs = let o = c.before.before in scaler_role (told _ o.before.before.header_of.ensures o.opened3.given.1).1
 
 add-take-scaler : tie.Need-overflow-add-take-scaler
 add-take-scaler c = search rules
@@ -52,13 +52,13 @@ take-scaler-requires c κs =
     let o = c.before.before.before.before in
     let s = o.before.before.before.before in
     let run = told _ o.before.before.header_of.ensures o.opened3.given.1 in
-    let given = part-inside s.args.bounds.now _ c.before.part_of.ensures s.requires.1.1 (scaler-role run.1) in
-    ((omega arith, s.requires.0.1), (omega (arith, run.0.row), (is-scaler run.1, given)))
+    let given = part_inside s.args.bounds.now _ c.before.part_of.ensures s.requires.1.1 (scaler_role run.1) in
+    ((omega arith, s.requires.0.1), (omega (arith, run.0.row), (is_scaler run.1, given)))
 
 returns : tie.Need-returns
 returns c =
     let bad = told _ c.before.before.before.header_of.ensures c.before.opened.given.1 in
-    each (λ g k. head-refused g _ _ _ _ _ bad.0 bad.1)
+    each (λ g k. head_refused g _ _ _ _ _ bad.0 bad.1)
 
 returns-2 : tie.Need-returns-2
 returns-2 c =
@@ -75,7 +75,7 @@ returns-4 c =
     let o = c.before.before.before.before.before in
     let s = o.before.before.before.before in
     let run = told _ o.before.before.header_of.ensures o.opened3.given.1 in
-    let given = scaler-part s.args.bounds.now _ c.before.before.part_of.ensures run.1 in
+    let given = scaler_part s.args.bounds.now _ c.before.before.part_of.ensures run.1 in
     each (λ g k. head_passed g _ _ (slice (s.args.at + 1) s.args.end (words_of s.args.batch.now)) _ run.0.fine run.0.kind (c.take-scaler.ensures.0 g _ run.1 (given g _ _ k), c.take-scaler.ensures.1 g _ run.1 (given g _ _ k)))
 
 pub read-headed-spec : {M : Type 1} → statement M

@@ -9,7 +9,7 @@ use Rattle.meaning.specs.Words.{words_of}
 use Rattle.meaning.specs.Answers.{success}
 use Rattle.headers.specs.Told.{Leads}
 use Rattle.bodies.specs.Passes.{passed}
-use Rattle.bodies.proofs.Bodies.{body-done, among-words}
+use Rattle.bodies.proofs.Bodies.{body_done, among_words}
 use Rattle.headers.proofs.Groups.{unnamed}
 use Rattle.packets.proofs.Headed.{comes, always, leads, settled, unsettled}
 use Rattle.packets.proofs.read_lone.Statement.{statement}
@@ -23,7 +23,7 @@ named c =
 returns : tie.Need-returns
 returns c =
     let s = c.before.before in
-    always (λ g st. comes (body-done g (words_of s.args.batch.now) _ _ (among-words s.args.batch.now _ s.requires.0.1) _ st s.args.at refl (omega arith)))
+    always (λ g st. comes (body_done g (words_of s.args.batch.now) _ _ (among_words s.args.batch.now _ s.requires.0.1) _ st s.args.at refl (omega arith)))
 
 word-requires : tie.Need-word-requires
 word-requires c κs = search rules
@@ -38,14 +38,14 @@ returns-2 : tie.Need-returns-2
 returns-2 c =
     let s = c.before.before.before.before.before.before in
     let bad = unnamed _ c.before.before.Group-of.ensures c.enum_told.given.1 in
-    always (λ g st. unsettled g (words_of s.args.batch.now) s.args.at c.before.before.before.word.ensures _ (omega arith) (among-words s.args.batch.now _ s.requires.0.1) st bad)
+    always (λ g st. unsettled g (words_of s.args.batch.now) s.args.at c.before.before.before.word.ensures _ (omega arith) (among_words s.args.batch.now _ s.requires.0.1) st bad)
 
 returns-3 : tie.Need-returns-3
 returns-3 c =
     let s = c.before.before.before.before.before in
-    let whole = among-words s.args.batch.now _ s.requires.0.1 in
+    let whole = among_words s.args.batch.now _ s.requires.0.1 in
     let last : s.args.end ≡ s.args.at + 1 = omega arith in
-    always (λ g st. settled g (words_of s.args.batch.now) s.args.at c.before.before.word.ensures _ (omega arith) whole st (named c).fine (comes (ap (λ (x : ℕ). passed success x st) last ∙ body-done g (words_of s.args.batch.now) _ _ whole _ st _ refl (omega arith))))
+    always (λ g st. settled g (words_of s.args.batch.now) s.args.at c.before.before.word.ensures _ (omega arith) whole st (named c).fine (comes (ap (λ (x : ℕ). passed success x st) last ∙ body_done g (words_of s.args.batch.now) _ _ whole _ st _ refl (omega arith))))
 
 pub read-lone-spec : {M : Type 1} → statement M
 read-lone-spec =

@@ -5,16 +5,16 @@ use Prim.Native.Nat.{ℕ, ◌+◌, ◌<◌, min}
 use native.Mathlib.Omega.{arith}
 use lib.ListN.{length}
 use Rattle.meaning.specs.Words.{count, words_of}
-use Rattle.meaning.proofs.Bytes.{length-words}
+use Rattle.meaning.proofs.Bytes.{length_words}
 use Rattle.packets.proofs.Headed.{each}
-use Rattle.packets.proofs.Packets.{packet-refused, packet-passed}
+use Rattle.packets.proofs.Packets.{packet_refused, packet_passed}
 use borrow.Author.Rules.{rules}
 use Rattle.packets.proofs.read_packet.Statement.{statement}
 use Rattle.packets.proofs.read_packet.Tie as tie
 
 -- the header stands before the end
 inside : (s : tie.Start) → s.args.at < length (words_of s.args.batch.now)
-inside s = omega (arith, length-words s.args.batch.now)
+inside s = omega (arith, length_words s.args.batch.now)
 
 -- the place after the packet by its count, and where its words at hand end
 module _ (r : tie.After-read-headed) where
@@ -25,7 +25,7 @@ module _ (r : tie.After-read-headed) where
   next-is = ap (λ (n : ℕ). s.args.at + 1 + n) r.before.before.before.count.ensures
 
   end_is : r.before.before.end_of_lem.result ≡ min (s.args.at + 1 + count r.before.before.before.before.word.result) (length (words_of s.args.batch.now))
-  end_is = r.before.before.end_of_lem.ensures ∙ rw (next-is, length-words s.args.batch.now)
+  end_is = r.before.before.end_of_lem.ensures ∙ rw (next-is, length_words s.args.batch.now)
 
 word-requires : tie.Need-word-requires
 word-requires c κs = search rules
@@ -52,14 +52,14 @@ read-headed-requires c κs = let s = c.before.before.before.before.before in
 returns : tie.Need-returns
 returns c =
     let r = c.before.before in
-    let p = each (λ g k. packet-refused g _ _ _ (inside (s r)) r.before.before.before.before.word.ensures _ (end_is r) (r.read-headed.ensures.0 g k) (r.read-headed.ensures.1 g k) c.if1.true) in
+    let p = each (λ g k. packet_refused g _ _ _ (inside (s r)) r.before.before.before.before.word.ensures _ (end_is r) (r.read-headed.ensures.0 g k) (r.read-headed.ensures.1 g k) c.if1.true) in
     (p.0, (p.1, λ z. absurd (c.if1.true z)))
 
 returns-2 : tie.Need-returns-2
 returns-2 c =
     let r = c.before.before in
     let w = r.before.before.before.before.word.ensures in
-    let p = each (λ g k. packet-passed g _ _ _ (inside (s r)) w _ (end_is r) (r.read-headed.ensures.0 g k) (r.read-headed.ensures.1 g k) c.if1.false (next-is r)) in
+    let p = each (λ g k. packet_passed g _ _ _ (inside (s r)) w _ (end_is r) (r.read-headed.ensures.0 g k) (r.read-headed.ensures.1 g k) c.if1.false (next-is r)) in
     (p.0, (p.1, λ z. next-is r ∙ ap (λ (h : ℕ). (s r).args.at + 1 + count h) w))
 
 pub read-packet-spec : {M : Type 1} → statement M

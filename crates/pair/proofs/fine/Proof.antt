@@ -2,7 +2,7 @@
 -- Assumes nothing.
 use mathlib.Core.Path.{◌∙◌}
 use Rattle.meaning.specs.Words.{words_of}
-use Rattle.pair.proofs.Judged.{known-state}
+use Rattle.pair.proofs.Judged.{known_state}
 use borrow.Author.Rules.{rules}
 use Rattle.pair.proofs.fine.Statement.{statement}
 use Rattle.pair.proofs.fine.Tie as tie
@@ -18,7 +18,7 @@ returns c =
     let told = c.before in
     let start = told.before.before.before in
     let a = start.args in
-    known-state a.starts.now a.lasts.now a.numbers.now a.part (words_of a.state.now) told.before.pair_of.ensures start.requires.1.1 told.settled.ensures c.if1.true
+    known_state a.starts.now a.lasts.now a.numbers.now a.part (words_of a.state.now) told.before.pair_of.ensures start.requires.1.1 told.settled.ensures c.if1.true
 
 fine-of-requires : tie.Need-fine-of-requires
 fine-of-requires c κs = search rules

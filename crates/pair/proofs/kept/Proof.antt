@@ -5,7 +5,7 @@ use mathlib.Core.List.{List}
 use Prim.Native.Nat.{ℕ}
 use lib.ListN.{set}
 use Rattle.pair.specs.Marks.{restored}
-use Rattle.pair.proofs.Judged.{given, neither, one, known-fine}
+use Rattle.pair.proofs.Judged.{given, neither, one, known_fine}
 use borrow.Author.Rules.{rules}
 use Rattle.pair.proofs.kept.Statement.{statement}
 use Rattle.pair.proofs.kept.Tie as tie
@@ -86,7 +86,7 @@ returns-2 c =
     let e = c.before.before.before.before.before in
     let first = e.before.before.back_to.ensures in
     let second = e.before.back-to2.ensures in
-    let fine = known-fine _ _ (now e) (start e).requires.0 first second (start e).args.starts.now (start e).args.lasts.now (start e).args.numbers.now (start e).args.part
+    let fine = known_fine _ _ (now e) (start e).requires.0 first second (start e).args.starts.now (start e).args.lasts.now (start e).args.numbers.now (start e).args.part
     (start e).requires.1.1 c.before.settled.ensures c.if2.true in
     (one _ _ (now e) (start e).requires.0 first second _ _ _ _ e.either.ensures c.before.before.before.before.if1.false fine, left e)
 

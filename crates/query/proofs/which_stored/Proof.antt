@@ -1,7 +1,7 @@
 -- By the role: no address, or a scaler's.
 -- Assumes nothing.
 use borrow.Author.Rules.{rules}
-use Rattle.query.proofs.Asked.{part-inside, stored-none, stored-scaler}
+use Rattle.query.proofs.Asked.{part_inside, stored_none, stored_scaler}
 use Rattle.query.proofs.which_stored.Statement.{statement}
 use Rattle.query.proofs.which_stored.Tie as tie
 
@@ -11,7 +11,7 @@ role-of-requires c κs = search rules
 returns : tie.Need-returns
 returns c ws names other =
     let a = c.before.before.args in
-    stored-none a.cell a.value _ (c.before.role-of.ensures.0 other) ws c.if1.true
+    stored_none a.cell a.value _ (c.before.role-of.ensures.0 other) ws c.if1.true
 
 part-of-requires : tie.Need-part-of-requires
 part-of-requires c κs = search rules
@@ -22,13 +22,13 @@ scaler-address-requires c κs = search rules
 which-requires : tie.Need-which-requires
 which-requires c κs =
     let start = c.before.before.before.before in
-    part-inside start.args.bounds.now start.requires _ c.before.before.before.role-of.ensures.1 c.before.part_of.ensures
+    part_inside start.args.bounds.now start.requires _ c.before.before.before.role-of.ensures.1 c.before.part_of.ensures
 
 returns-2 : tie.Need-returns-2
 returns-2 c ws names other =
     let a = c.before.before.before.before.before.args in
     let r = c.before.before.before.before.role-of.ensures in
-    stored-scaler a.cell a.value _ (r.0 other) ws a.starts.now a.lasts.now a.numbers.now a.bounds.now names
+    stored_scaler a.cell a.value _ (r.0 other) ws a.starts.now a.lasts.now a.numbers.now a.bounds.now names
     c.before.before.part_of.ensures r.1 c.before.before.before.if1.false c.before.scaler-address.ensures c.which.ensures
 
 pub which-stored-spec : {M : Type 1} → statement M

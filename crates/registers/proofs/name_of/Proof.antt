@@ -3,7 +3,7 @@
 use Prim.Native.Nat.{◌≤◌}
 use native.Mathlib.Omega.{arith}
 use Rattle.laws.proofs.Arms.{spans}
-use Rattle.registers.specs.Names.{nameOf, type_of, subTypeOf, address_of}
+use Rattle.registers.specs.Names.{name_of, type_of, sub_type_of, address_of}
 use borrow.Author.Rules.{rules}
 use Rattle.registers.proofs.name_of.Statement.{statement}
 use Rattle.registers.proofs.name_of.Tie as tie
@@ -36,19 +36,19 @@ add-t24 : tie.Need-overflow-add-t24
 add-t24 c = search rules
 
 returns : tie.Need-returns
-unfolding nameOf type_of subTypeOf address_of
+unfolding name_of type_of sub_type_of address_of
 returns c = let low : c.before.args.cell.0 ≤ 3 = omega arith in search spans
 
 returns-2 : tie.Need-returns-2
-unfolding nameOf type_of subTypeOf address_of
+unfolding name_of type_of sub_type_of address_of
 returns-2 c = search spans
 
 returns-3 : tie.Need-returns-3
-unfolding nameOf type_of subTypeOf address_of
+unfolding name_of type_of sub_type_of address_of
 returns-3 c = search spans
 
 returns-4 : tie.Need-returns-4
-unfolding nameOf type_of subTypeOf address_of
+unfolding name_of type_of sub_type_of address_of
 returns-4 c = search spans
 
 pub name-of-spec : {M : Type 1} → statement M

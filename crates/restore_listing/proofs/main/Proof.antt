@@ -3,7 +3,7 @@
 use mathlib.Core.Path.{sym}
 use lib.Seq.{length-take-le}
 use borrow.Author.Rules.{rules}
-use Rattle.restore_listing.proofs.Answered.{restored-within}
+use Rattle.restore_listing.proofs.Answered.{restored_within}
 use Rattle.restore_listing.proofs.main.Statement.{statement}
 use Rattle.restore_listing.proofs.main.Tie as tie
 
@@ -44,10 +44,10 @@ report-requires : tie.Need-report-requires
 report-requires c κs = search rules
 
 array-share-prefix-out : tie.Need-array-share-prefix-out
-array-share-prefix-out c = let r = c.before.report in restored-within _ _ r.ensures.0 r.ensures.1
+array-share-prefix-out c = let r = c.before.report in restored_within _ _ r.ensures.0 r.ensures.1
 
 slice-aggregate-write-all-2 : tie.Need-slice-aggregate-write-all-2
-slice-aggregate-write-all-2 c = let r = c.before.before.report in sym (length-take-le r.result r.new.1.0 (restored-within _ _ r.ensures.0 r.ensures.1))
+slice-aggregate-write-all-2 c = let r = c.before.before.report in sym (length-take-le r.result r.new.1.0 (restored_within _ _ r.ensures.0 r.ensures.1))
 
 write-all-requires-2 : tie.Need-write-all-requires-2
 write-all-requires-2 c κs = search rules

@@ -1,7 +1,7 @@
 -- The words go behind the place of the number that tells how many they are.
 -- Assumes nothing.
 use borrow.Author.Rules.{rules}
-use Rattle.restore_listing.proofs.Rewritten.{no-batch, a-batch}
+use Rattle.restore_listing.proofs.Rewritten.{no_batch, a_batch}
 use Rattle.restore_listing.proofs.put_batch.Statement.{statement}
 use Rattle.restore_listing.proofs.put_batch.Tie as tie
 
@@ -32,7 +32,7 @@ returns c =
     let w = p.before.before.before.before in
     let s = w.before.before.before.before.before in
     let i = w.irangelda-write in
-    no-batch s.args.state.now s.args.out.now s.requires i.result i.ensures.0 i.new.1.1.0 i.ensures.1 p.put-number.new.0 p.put-number.ensures
+    no_batch s.args.state.now s.args.out.now s.requires i.result i.ensures.0 i.new.1.1.0 i.ensures.1 p.put-number.new.0 p.put-number.ensures
     c.if1.true
 
 mul-result : tie.Need-overflow-mul-result
@@ -50,7 +50,7 @@ returns-2 c =
     let w = p.before.before.before.before in
     let s = w.before.before.before.before.before in
     let i = w.irangelda-write in
-    a-batch s.args.state.now s.args.out.now s.requires i.result i.ensures.0 i.new.1.1.0 i.ensures.1 p.put-number.new.0 p.put-number.ensures
+    a_batch s.args.state.now s.args.out.now s.requires i.result i.ensures.0 i.new.1.1.0 i.ensures.1 p.put-number.new.0 p.put-number.ensures
     c.if1.false
 
 pub put-batch-spec : {M : Type 1} → statement M

@@ -6,19 +6,19 @@ use native.Mathlib.Omega.{arith}
 use lib.ListN.{length, length-set}
 use lib.Seq.{sets}
 use Rattle.laws.proofs.Stores.{sets_over}
-use Rattle.restore_listing.specs.Restored.{numberBytes}
-use Rattle.restore_listing.proofs.Fronts.{low_bytes, eight-bytes, eight}
+use Rattle.restore_listing.specs.Restored.{number_bytes}
+use Rattle.restore_listing.proofs.Fronts.{low_bytes, eight_bytes, eight}
 use Rattle.restore_listing.proofs.put_number.Statement.{statement}
 use Rattle.restore_listing.proofs.put_number.Tie as tie
 
 abbrev invariant-loop : tie.invariant-loop
-invariant-loop out₀ n left₀ i₀ out left i = (i ≤ 8) × (length out ≡ length out₀) × (sets out i (low_bytes (8 - i) left) ≡ sets out₀ 0 (numberBytes n))
+invariant-loop out₀ n left₀ i₀ out left i = (i ≤ 8) × (length out ≡ length out₀) × (sets out i (low_bytes (8 - i) left) ≡ sets out₀ 0 (number_bytes n))
 
 abbrev decreases-loop : tie.decreases-loop
 decreases-loop out₀ n left₀ i₀ out left i = 8 - i
 
 loop-holds : tie.Need-loop-init invariant-loop decreases-loop
-loop-holds c = (omega arith, refl, ap (sets c.args.out.now 0) (eight-bytes c.args.n))
+loop-holds c = (omega arith, refl, ap (sets c.args.out.now 0) (eight_bytes c.args.n))
 
 cast-out : tie.Need-overflow-cast-out invariant-loop decreases-loop
 cast-out c = omega arith
@@ -50,7 +50,7 @@ returns c =
     let l = c.before.loop in
     let a = c.before.before.args in
     let none : 8 - l.i ≡ 0 = omega arith in
-    sym (ap (λ k. sets l.out l.i (low_bytes k l.left)) none) ∙ l.invariant.2 ∙ sets_over (numberBytes a.n) a.out.now (omega (arith, eight a.n))
+    sym (ap (λ k. sets l.out l.i (low_bytes k l.left)) none) ∙ l.invariant.2 ∙ sets_over (number_bytes a.n) a.out.now (omega (arith, eight a.n))
 
 pub put-number-spec : {M : Type 1} → statement M
 put-number-spec =

@@ -3,8 +3,8 @@
 use native.Mathlib.Omega.{arith}
 use borrow.Author.Rules.{rules}
 use Rattle.meaning.specs.State.{empty}
-use Rattle.restore_listing.specs.Restored.{emptyBytes, stateRead}
-use Rattle.restore_listing.proofs.Rewritten.{rewritten-within}
+use Rattle.restore_listing.specs.Restored.{empty_bytes, state_read}
+use Rattle.restore_listing.proofs.Rewritten.{rewritten_within}
 use Rattle.restore_listing.proofs.Answered.{refused, taken}
 use Rattle.restore_listing.proofs.report.Statement.{statement}
 use Rattle.restore_listing.proofs.report.Tie as tie
@@ -22,7 +22,7 @@ same_length : tie.Need-same-length
 same_length c = search rules
 
 returns : tie.Need-returns
-unfolding emptyBytes empty
+unfolding empty_bytes empty
 returns c =
     let p = c.before.before.before in
     let r = p.before.before.before in
@@ -48,13 +48,13 @@ put-batch-requires c κs = search rules
 add-result : tie.Need-overflow-add-result
 add-result c =
     let b = c.before.before in
-    omega (arith, rewritten-within _ _ b.put-batch.ensures.0 b.put-batch.ensures.1)
+    omega (arith, rewritten_within _ _ b.put-batch.ensures.0 b.put-batch.ensures.1)
 
 same-length-2 : tie.Need-same-length-2
 same-length-2 c = search rules
 
 returns-2 : tie.Need-returns-2
-unfolding emptyBytes empty stateRead
+unfolding empty_bytes empty state_read
 returns-2 c =
     let b = c.before.before in
     let e = b.before.before.before in

@@ -1,9 +1,9 @@
 -- `rows_3d::location_reason` meets its contract: the tests are those of its row, in their order.
 -- Assumes nothing.
 use borrow.Author.Rules.{rules}
-use Rattle.meaning.specs.Registers.{targetGroup}
-use Rattle.rows_3d.proofs.Registers.{own-target}
-use Rattle.meaning.proofs.Columns.{at-cell, order}
+use Rattle.meaning.specs.Registers.{target_group}
+use Rattle.rows_3d.proofs.Registers.{own_target}
+use Rattle.meaning.proofs.Columns.{at_cell, order}
 use Rattle.rows_3d.proofs.location_reason.Statement.{statement}
 use Rattle.rows_3d.proofs.location_reason.Tie as tie
 
@@ -11,8 +11,8 @@ must-be-clear-requires : tie.Need-must-be-clear-requires
 must-be-clear-requires c κs = search rules
 
 returns : tie.Need-returns
-unfolding targetGroup
-returns c g = at-cell g _ _ own-target.1.1.0 (search order)
+unfolding target_group
+returns c g = at_cell g _ _ own_target.1.1.0 (search order)
 
 location-requires : tie.Need-location-requires
 location-requires c κs = search rules
@@ -21,8 +21,8 @@ ruled-reason-requires : tie.Need-ruled-reason-requires
 ruled-reason-requires c κs = search rules
 
 returns-2 : tie.Need-returns-2
-unfolding targetGroup
-returns-2 c g = at-cell g _ _ own-target.1.1.0 (search order)
+unfolding target_group
+returns-2 c g = at_cell g _ _ own_target.1.1.0 (search order)
 
 pub location-reason-spec : {M : Type 1} → statement M
 location-reason-spec =

@@ -1,7 +1,7 @@
 -- Both registers of either scaler have the mask, and hold an address.
 -- Assumes nothing.
 use Rattle.meaning.specs.Registers.{scaler}
-use Rattle.rows_video.proofs.Registers.{own-scaler}
+use Rattle.rows_video.proofs.Registers.{own_scaler}
 use Rattle.meaning.proofs.Columns.{alike}
 use borrow.Author.Rules.{rules}
 use Rattle.rows_video.proofs.address_reason.Statement.{statement}
@@ -13,8 +13,8 @@ scaler-address-reason-requires c κs = search rules
 returns : tie.Need-returns
 unfolding scaler
 returns c = (
-  λ g b role s given. alike g _ _ (own-scaler b role s).1.1.1.0 (c.scaler-address-reason.ensures g role given),
-  λ g b role s given. alike g _ _ (own-scaler b role s).1.1.1.1.1.1.0 (c.scaler-address-reason.ensures g role given),
+  λ g b role s given. alike g _ _ (own_scaler b role s).1.1.1.0 (c.scaler-address-reason.ensures g role given),
+  λ g b role s given. alike g _ _ (own_scaler b role s).1.1.1.1.1.1.0 (c.scaler-address-reason.ensures g role given),
 )
 
 pub address-reason-spec : {M : Type 1} → statement M

@@ -2,8 +2,8 @@
 -- Assumes nothing.
 use Rattle.meaning.specs.Registers.{scaler}
 use Rattle.meaning.specs.Reader.{unless}
-use Rattle.rows_video.proofs.Registers.{own-scaler}
-use Rattle.meaning.proofs.Columns.{at-cell}
+use Rattle.rows_video.proofs.Registers.{own_scaler}
+use Rattle.meaning.proofs.Columns.{at_cell}
 use borrow.Author.Rules.{rules}
 use Rattle.rows_video.proofs.deinterlace_reason.Statement.{statement}
 use Rattle.rows_video.proofs.deinterlace_reason.Tie as tie
@@ -13,7 +13,7 @@ masked-reason-requires c κs = search rules
 
 returns : tie.Need-returns
 unfolding unless scaler
-returns c g b role s = at-cell g _ _ (own-scaler b role s).0 c.masked-reason.ensures
+returns c g b role s = at_cell g _ _ (own_scaler b role s).0 c.masked-reason.ensures
 
 pub deinterlace-reason-spec : {M : Type 1} → statement M
 deinterlace-reason-spec = tie.close (tie.spec masked-reason-requires returns)

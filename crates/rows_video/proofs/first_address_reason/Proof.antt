@@ -1,7 +1,7 @@
 -- The register of either scaler has the mask, and holds an address.
 -- Assumes nothing.
 use Rattle.meaning.specs.Registers.{scaler}
-use Rattle.rows_video.proofs.Registers.{own-scaler}
+use Rattle.rows_video.proofs.Registers.{own_scaler}
 use Rattle.meaning.proofs.Columns.{alike}
 use borrow.Author.Rules.{rules}
 use Rattle.rows_video.proofs.first_address_reason.Statement.{statement}
@@ -12,7 +12,7 @@ scaler-address-reason-requires c κs = search rules
 
 returns : tie.Need-returns
 unfolding scaler
-returns c g b role s given = alike g _ _ (own-scaler b role s).1.1.0 (c.scaler-address-reason.ensures g role given)
+returns c g b role s given = alike g _ _ (own_scaler b role s).1.1.0 (c.scaler-address-reason.ensures g role given)
 
 pub first-address-reason-spec : {M : Type 1} → statement M
 first-address-reason-spec = tie.close (tie.spec scaler-address-reason-requires returns)

@@ -2,8 +2,8 @@
 -- Assumes nothing.
 use borrow.Author.Rules.{rules}
 use Rattle.meaning.specs.Reader.{unless}
-use Rattle.rows_video.proofs.Registers.{at-overlay}
-use Rattle.meaning.proofs.Columns.{at-cell}
+use Rattle.rows_video.proofs.Registers.{at_overlay}
+use Rattle.meaning.proofs.Columns.{at_cell}
 use Rattle.rows_video.proofs.overlay_reason.Statement.{statement}
 use Rattle.rows_video.proofs.overlay_reason.Tie as tie
 
@@ -12,7 +12,7 @@ masked-reason-requires c κs = search rules
 
 returns : tie.Need-returns
 unfolding unless
-returns c g k low high = at-cell g _ _ (at-overlay k low high) c.masked-reason.ensures
+returns c g k low high = at_cell g _ _ (at_overlay k low high) c.masked-reason.ensures
 
 pub overlay-reason-spec : {M : Type 1} → statement M
 overlay-reason-spec = tie.close (tie.spec masked-reason-requires returns)

@@ -1,6 +1,6 @@
 -- `rules::format_byte` meets its contract: the test is the definition's, at what the table gives.
 -- Assumes nothing.
-use Rattle.meaning.specs.Registers.{formatByte}
+use Rattle.meaning.specs.Registers.{format_byte}
 use borrow.Author.Rules.{rules}
 use Rattle.rules.proofs.format_byte.Statement.{statement}
 use Rattle.rules.proofs.format_byte.Tie as tie
@@ -9,7 +9,7 @@ bytes-per-pixel-requires : tie.Need-bytes-per-pixel-requires
 bytes-per-pixel-requires c κs = search rules
 
 returns : tie.Need-returns
-unfolding formatByte
+unfolding format_byte
 returns c = rw c.bytes-per-pixel.ensures
 
 pub format-byte-spec : {M : Type 1} → statement M

@@ -4,11 +4,11 @@ use mathlib.Core.Path.{◌≡◌, ap₂, ◌∙◌}
 use mathlib.Core.Bool.{◌&&◌}
 use Prim.Native.Nat.{ℕ, ◌/◌}
 use native.Mathlib.Nat.{div-one}
-use Rattle.laws.proofs.Arms.{told-true}
+use Rattle.laws.proofs.Arms.{told_true}
 use Rattle.meaning.specs.Words.{bits}
-use Rattle.meaning.specs.Registers.{bothTwo, filters}
+use Rattle.meaning.specs.Registers.{both_two, filters}
 use Rattle.sampling.proofs.Codes.{row}
-use Rattle.sampling.proofs.Ties.{low-codes}
+use Rattle.sampling.proofs.Ties.{low_codes}
 use borrow.Author.Rules.{rules}
 use Rattle.sampling.proofs.filters.Statement.{statement}
 use Rattle.sampling.proofs.filters.Tie as tie
@@ -63,11 +63,11 @@ returns-7 c =
     let shrink-s = enlarge-t.before.before in
     let enlarge-s = shrink-s.before.before in
     let v : ℕ = enlarge-s.before.before.before.args.value in
-    let s-and-t : c.tied.result ≡ (bothTwo (bits 15 13 v) (bits 9 7 v) && bothTwo (bits 12 10 v) (bits 6 4 v)) =
+    let s-and-t : c.tied.result ≡ (both_two (bits 15 13 v) (bits 9 7 v) && both_two (bits 12 10 v) (bits 6 4 v)) =
     c.tied.ensures
     ∙ ap₂ ◌&&◌
-    (low-codes (v / 0x2000) (v / 0x80) (told-true enlarge-s.before.filter-code.ensures enlarge-s.if2.false) (told-true enlarge-t.before.filter-code3.ensures enlarge-t.if4.false))
-    (low-codes (v / 0x400) (v / 0x10) (told-true shrink-s.before.filter-code2.ensures shrink-s.if3.false) (told-true shrink-t.before.filter-code4.ensures shrink-t.if5.false))
+    (low_codes (v / 0x2000) (v / 0x80) (told_true enlarge-s.before.filter-code.ensures enlarge-s.if2.false) (told_true enlarge-t.before.filter-code3.ensures enlarge-t.if4.false))
+    (low_codes (v / 0x400) (v / 0x10) (told_true shrink-s.before.filter-code2.ensures shrink-s.if3.false) (told_true shrink-t.before.filter-code4.ensures shrink-t.if5.false))
     in
     simp div-one (search (s-and-t, row) depth 10 fits 20000)
 

@@ -7,7 +7,7 @@ use Rattle.meaning.specs.Words.{words_of}
 use Rattle.meaning.specs.Grants.{Terms}
 use Rattle.grants.specs.Kept.{Granting}
 use Rattle.cells.specs.Rows as rows
-use Rattle.search.proofs.Sections.{no_address}
+use Rattle.search.proofs.Sections.{no_address_lem}
 use Rattle.search.proofs.Lowest.{Looked, all_left, look, passed}
 use Rattle.search.proofs.bad_in_target.Statement.{statement}
 use Rattle.search.proofs.bad_in_target.Tie as tie
@@ -31,28 +31,28 @@ Next e k fine = let a = e.args in
     (g : Terms) → Granting g 1 a.starts.now a.lasts.now a.part → Looked g (words_of a.state.now) 0 4 k k fine
 
 fine-requires : tie.Need-fine-requires
-fine-requires c κs = let p = c.before.requires in (p.0, ((_, rows.alpha-constants), p.1))
+fine-requires c κs = let p = c.before.requires in (p.0, ((_, rows.alpha_constants_row), p.1))
 
 cell-0 : (c : tie.After-fine) → Next (start-0 c) 0 c.fine.result
-cell-0 c g given = look 0 tt refl (all_left g _ _ 4) (c.fine.ensures g 0 rows.alpha-constants no_address)
+cell-0 c g given = look 0 tt refl (all_left g _ _ 4) (c.fine.ensures g 0 rows.alpha_constants_row no_address_lem)
 
 returns : tie.Need-returns
 returns c g given = (cell-0 c.before g given).bad c.if1.true
 
 fine-requires-2 : tie.Need-fine-requires-2
-fine-requires-2 c κs = let p = (start-0 c.before).requires in (p.0, ((_, rows.target-address), p.1))
+fine-requires-2 c κs = let p = (start-0 c.before).requires in (p.0, ((_, rows.target_address), p.1))
 
-cell-1 : (c : tie.After-fine2) → Next (start-1 c) 1 c.fine2.result
-cell-1 c g given = look 1 tt refl ((cell-0 c.before.before g given).past c.before.if1.false) (c.fine2.ensures g 1 rows.target-address (λ n. given))
+cell_1 : (c : tie.After-fine2) → Next (start-1 c) 1 c.fine2.result
+cell_1 c g given = look 1 tt refl ((cell-0 c.before.before g given).past c.before.if1.false) (c.fine2.ensures g 1 rows.target_address (λ n. given))
 
 returns-2 : tie.Need-returns-2
-returns-2 c g given = (cell-1 c.before g given).bad c.if2.true
+returns-2 c g given = (cell_1 c.before g given).bad c.if2.true
 
 fine-requires-3 : tie.Need-fine-requires-3
 fine-requires-3 c κs = let p = (start-1 c.before).requires in (p.0, ((_, rows.location), p.1))
 
 cell-2 : (c : tie.After-fine3) → Next (start-2 c) 2 c.fine3.result
-cell-2 c g given = look 2 tt refl ((cell-1 c.before.before g given).past c.before.if2.false) (c.fine3.ensures g 0 rows.location no_address)
+cell-2 c g given = look 2 tt refl ((cell_1 c.before.before g given).past c.before.if2.false) (c.fine3.ensures g 0 rows.location no_address_lem)
 
 returns-3 : tie.Need-returns-3
 returns-3 c g given = (cell-2 c.before g given).bad c.if3.true
@@ -61,7 +61,7 @@ fine-requires-4 : tie.Need-fine-requires-4
 fine-requires-4 c κs = let p = (start-2 c.before).requires in (p.0, ((_, rows.format), p.1))
 
 cell-3 : (c : tie.After-fine4) → Next (start-3 c) 3 c.fine4.result
-cell-3 c g given = look 3 tt refl ((cell-2 c.before.before g given).past c.before.if3.false) (c.fine4.ensures g 0 rows.format no_address)
+cell-3 c g given = look 3 tt refl ((cell-2 c.before.before g given).past c.before.if3.false) (c.fine4.ensures g 0 rows.format no_address_lem)
 
 returns-4 : tie.Need-returns-4
 returns-4 c g given = (cell-3 c.before g given).bad c.if4.true

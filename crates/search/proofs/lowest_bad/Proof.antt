@@ -7,8 +7,8 @@ use Rattle.meaning.specs.Words.{words_of}
 use Rattle.meaning.specs.Registers.{cells}
 use Rattle.grants.specs.Kept.{Keeps}
 use Rattle.rows_video.specs.Scalers.{Scaler}
-use Rattle.rows_video.proofs.Scalers.{scaler-at, scaler-granted}
-use Rattle.search.proofs.Lowest.{all_left, passed, Searched, in-section, Loop, begins, goes_on}
+use Rattle.rows_video.proofs.Scalers.{scaler_at_lem, scaler_granted}
+use Rattle.search.proofs.Lowest.{all_left, passed, Searched, in_section, Loop, begins, goes_on_lem}
 use Rattle.search.proofs.lowest_bad.Statement.{statement}
 use Rattle.search.proofs.lowest_bad.Tie as tie
 
@@ -53,7 +53,7 @@ bad-in-target-requires :
 bad-in-target-requires c κs = let p = c.before.before.requires in (p.0, rw c.part_of.ensures (p.1 1 (omega arith)))
 
 target : (c : tie.After-bad-in-target invariant-loop decreases-loop invariant-loop2 decreases-loop2 invariant-loop3 decreases-loop3) → Part c.before.before.before 0 4 c.bad-in-target.result
-target c = in-section (λ g k. all_left g _ 0 cells) (omega arith) (λ g k. c.bad-in-target.ensures g (rw c.before.part_of.ensures k.targets))
+target c = in_section (λ g k. all_left g _ 0 cells) (omega arith) (λ g k. c.bad-in-target.ensures g (rw c.before.part_of.ensures k.targets))
 
 returns : tie.Need-returns invariant-loop decreases-loop invariant-loop2 decreases-loop2 invariant-loop3 decreases-loop3
 returns c = (target c.before).bad c.if1.true
@@ -69,7 +69,7 @@ add-if2 : tie.Need-overflow-add-if2 invariant-loop decreases-loop invariant-loop
 add-if2 c = omega arith
 
 stage : (c : tie.After-bad-in-stage invariant-loop decreases-loop invariant-loop2 decreases-loop2 invariant-loop3 decreases-loop3) → let l = c.before.before in Part (entry-1 l) l.loop.c 2 c.bad-in-stage.result
-stage c = in-section c.before.before.loop.invariant.rest (omega arith) (λ g k. c.bad-in-stage.ensures g)
+stage c = in_section c.before.before.loop.invariant.rest (omega arith) (λ g k. c.bad-in-stage.ensures g)
 
 returns-2 : tie.Need-returns-2 invariant-loop decreases-loop invariant-loop2 decreases-loop2 invariant-loop3 decreases-loop3
 returns-2 c = (stage c.before).bad c.if2.true
@@ -81,7 +81,7 @@ loop-less : tie.Need-loop-smaller invariant-loop decreases-loop invariant-loop2 
 loop-less c = omega arith
 
 loop-again : tie.Need-loop-preserved invariant-loop decreases-loop invariant-loop2 decreases-loop2 invariant-loop3 decreases-loop3
-loop-again c = let i = c.before.before.before.loop.invariant in goes_on i (omega (arith, i.here)) ((stage c.before).past c.if2.false)
+loop-again c = let i = c.before.before.before.loop.invariant in goes_on_lem i (omega (arith, i.here)) ((stage c.before).past c.if2.false)
 
 loop2-holds : tie.Need-loop2-init invariant-loop decreases-loop invariant-loop2 decreases-loop2 invariant-loop3 decreases-loop3
 loop2-holds c = let i = c.before.loop.invariant in begins (omega (arith, i.here, i.within)) i.rest
@@ -94,7 +94,7 @@ add-if3 : tie.Need-overflow-add-if3 invariant-loop decreases-loop invariant-loop
 add-if3 c = omega arith
 
 sample : (c : tie.After-bad-in-sample invariant-loop decreases-loop invariant-loop2 decreases-loop2 invariant-loop3 decreases-loop3) → let l = c.before.before in Part (entry-2 l) l.loop2.c 3 c.bad-in-sample.result
-sample c = in-section c.before.before.loop2.invariant.rest (omega arith) (λ g k. c.bad-in-sample.ensures g)
+sample c = in_section c.before.before.loop2.invariant.rest (omega arith) (λ g k. c.bad-in-sample.ensures g)
 
 returns-3 : tie.Need-returns-3 invariant-loop decreases-loop invariant-loop2 decreases-loop2 invariant-loop3 decreases-loop3
 returns-3 c = (sample c.before).bad (omega arith)
@@ -106,7 +106,7 @@ loop2-less : tie.Need-loop2-smaller invariant-loop decreases-loop invariant-loop
 loop2-less c = omega arith
 
 loop2-again : tie.Need-loop2-preserved invariant-loop decreases-loop invariant-loop2 decreases-loop2 invariant-loop3 decreases-loop3
-loop2-again c = let i = c.before.before.before.loop2.invariant in goes_on i (omega (arith, i.here)) ((sample c.before).past c.if3.false)
+loop2-again c = let i = c.before.before.before.loop2.invariant in goes_on_lem i (omega (arith, i.here)) ((sample c.before).past c.if3.false)
 
 bad-in-overlay-requires :
     tie.Need-bad-in-overlay-requires invariant-loop decreases-loop invariant-loop2 decreases-loop2 invariant-loop3 decreases-loop3
@@ -117,7 +117,7 @@ overlay c =
     let l = c.before.before.loop2 in
     let i = l.invariant in
     let e : l.c ≡ 84 = omega (arith, i.here, i.within) in
-    in-section (rw e at i.rest) (omega arith) (λ g k. c.bad-in-overlay.ensures g)
+    in_section (rw e at i.rest) (omega arith) (λ g k. c.bad-in-overlay.ensures g)
 
 returns-4 : tie.Need-returns-4 invariant-loop decreases-loop invariant-loop2 decreases-loop2 invariant-loop3 decreases-loop3
 returns-4 c = (overlay c.before).bad c.if4.true
@@ -131,7 +131,7 @@ part-of-requires-2 c κs = omega arith
 
 -- the scaler that the loop is at
 scaler : (c : tie.In-loop3 invariant-loop decreases-loop invariant-loop2 decreases-loop2 invariant-loop3 decreases-loop3) → let l = c.before.loop3 in Scaler l.c l.role
-scaler c = let i = c.before.loop3.invariant in scaler-at i.0.behind (omega (arith, i.0.here, i.1)) i.0.here (omega (arith, i.0.here, i.1))
+scaler c = let i = c.before.loop3.invariant in scaler_at_lem i.0.behind (omega (arith, i.0.here, i.1)) i.0.here (omega (arith, i.0.here, i.1))
 
 bad-in-scaler-requires :
     tie.Need-bad-in-scaler-requires invariant-loop decreases-loop invariant-loop2 decreases-loop2 invariant-loop3 decreases-loop3
@@ -145,7 +145,7 @@ scaled c =
     let p = c.before in
     let l = p.before in
     let i = l.before.loop3.invariant in
-    in-section i.0.rest (omega (arith, i.0.here, i.1)) (λ g k. c.bad-in-scaler.ensures g _ (scaler l) (rw p.part-of2.ensures (scaler-granted g _ _ _ (scaler l) k)))
+    in_section i.0.rest (omega (arith, i.0.here, i.1)) (λ g k. c.bad-in-scaler.ensures g _ (scaler l) (rw p.part-of2.ensures (scaler_granted g _ _ _ (scaler l) k)))
 
 returns-5 : tie.Need-returns-5 invariant-loop decreases-loop invariant-loop2 decreases-loop2 invariant-loop3 decreases-loop3
 returns-5 c = (scaled c.before).bad c.if5.true
@@ -160,7 +160,7 @@ loop3-less : tie.Need-loop3-smaller invariant-loop decreases-loop invariant-loop
 loop3-less c = omega arith
 
 loop3-again : tie.Need-loop3-preserved invariant-loop decreases-loop invariant-loop2 decreases-loop2 invariant-loop3 decreases-loop3
-loop3-again c = let i = c.before.before.before.before.loop3.invariant in (goes_on i.0 (omega (arith, i.0.here, i.1)) ((scaled c.before).past c.if5.false), omega (arith, i.1))
+loop3-again c = let i = c.before.before.before.before.loop3.invariant in (goes_on_lem i.0 (omega (arith, i.0.here, i.1)) ((scaled c.before).past c.if5.false), omega (arith, i.1))
 
 returns-6 : tie.Need-returns-6 invariant-loop decreases-loop invariant-loop2 decreases-loop2 invariant-loop3 decreases-loop3
 returns-6 c g k = let i = c.before.loop3.invariant in passed (i.0.rest g k) (omega (arith, i.0.here, i.0.within, i.1))

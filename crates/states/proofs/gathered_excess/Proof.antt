@@ -5,15 +5,15 @@ use Rattle.laws.specs.Lists.{every, from}
 use Rattle.laws.specs.Tests.{implies}
 use Rattle.meaning.specs.Words.{words_of}
 use Rattle.meaning.specs.Registers.{cells, cell}
-use Rattle.meaning.specs.State.{value_at, markAt}
-use Rattle.states.specs.Marks.{clearTo}
-use Rattle.laws.proofs.Bits.{or-zero}
-use Rattle.states.proofs.Formed.{one_more, mark-small}
+use Rattle.meaning.specs.State.{value_at, mark_at}
+use Rattle.states.specs.Marks.{clear_to}
+use Rattle.laws.proofs.Bits.{or_zero}
+use Rattle.states.proofs.Formed.{one_more, mark_small}
 use Rattle.states.proofs.gathered_excess.Statement.{statement}
 use Rattle.states.proofs.gathered_excess.Tie as tie
 
 abbrev invariant-loop : tie.invariant-loop
-invariant-loop state held₀ c₀ held c = (c ≤ cells) × (eqb held 0 ≡ clearTo (words_of state) c)
+invariant-loop state held₀ c₀ held c = (c ≤ cells) × (eqb held 0 ≡ clear_to (words_of state) c)
 
 abbrev decreases-loop : tie.decreases-loop
 decreases-loop state held₀ c₀ held c = cells - c
@@ -32,7 +32,7 @@ excess-requires : tie.Need-excess-requires invariant-loop decreases-loop
 excess-requires c κs =
     let l = c.before.before.before in
     let start = l.before.before in
-    omega (arith, mark-small (words_of start.args.state.now) l.loop.c start.requires.1 (omega arith))
+    omega (arith, mark_small (words_of start.args.state.now) l.loop.c start.requires.1 (omega arith))
 
 add-c : tie.Need-overflow-add-c invariant-loop decreases-loop
 add-c c = omega arith
@@ -48,8 +48,8 @@ loop-again c =
       omega arith,
       one_more
           (λ h. eqb h 0)
-          or-zero
-          (λ k. implies (eqb (markAt st (cell k)) 0) (eqb (value_at st (cell k)) 0))
+          or_zero
+          (λ k. implies (eqb (mark_at st (cell k)) 0) (eqb (value_at st (cell k)) 0))
           l.loop.held
           c.excess.result
           l.loop.c
@@ -62,7 +62,7 @@ returns : tie.Need-returns invariant-loop decreases-loop
 returns c =
     let l = c.before in
     let e : l.loop.c ≡ cells = omega arith in
-    l.loop.invariant.1 ∙ ap (clearTo (words_of l.before.before.args.state.now)) e
+    l.loop.invariant.1 ∙ ap (clear_to (words_of l.before.before.args.state.now)) e
 
 pub gathered-excess-spec : {M : Type 1} → statement M
 gathered-excess-spec =

@@ -4,15 +4,15 @@ use Rattle.std.proofs.Common.{◌≡◌, ℕ, ◌-◌, ◌≤◌, leb, refl, ap,
 use Rattle.laws.specs.Lists.{every, from}
 use Rattle.meaning.specs.Words.{words_of}
 use Rattle.meaning.specs.Registers.{cells, cell}
-use Rattle.meaning.specs.State.{markAt}
-use Rattle.states.specs.Marks.{marksTo}
-use Rattle.laws.proofs.Bits.{or-small}
+use Rattle.meaning.specs.State.{mark_at}
+use Rattle.states.specs.Marks.{marks_to}
+use Rattle.laws.proofs.Bits.{or_small}
 use Rattle.states.proofs.Formed.{one_more}
 use Rattle.states.proofs.gathered_marks.Statement.{statement}
 use Rattle.states.proofs.gathered_marks.Tie as tie
 
 abbrev invariant-loop : tie.invariant-loop
-invariant-loop state marks₀ c₀ marks c = (c ≤ cells) × (leb marks 1 ≡ marksTo (words_of state) c)
+invariant-loop state marks₀ c₀ marks c = (c ≤ cells) × (leb marks 1 ≡ marks_to (words_of state) c)
 
 abbrev decreases-loop : tie.decreases-loop
 decreases-loop state marks₀ c₀ marks c = cells - c
@@ -37,8 +37,8 @@ loop-again c =
       omega arith,
       one_more
           (λ m. leb m 1)
-          or-small
-          (λ k. leb (markAt st (cell k)) 1)
+          or_small
+          (λ k. leb (mark_at st (cell k)) 1)
           l.loop.marks
           c.mark.result
           l.loop.c
@@ -50,7 +50,7 @@ returns : tie.Need-returns invariant-loop decreases-loop
 returns c =
     let l = c.before in
     let e : l.loop.c ≡ cells = omega arith in
-    l.loop.invariant.1 ∙ ap (marksTo (words_of l.before.before.args.state.now)) e
+    l.loop.invariant.1 ∙ ap (marks_to (words_of l.before.before.args.state.now)) e
 
 pub gathered-marks-spec : {M : Type 1} → statement M
 gathered-marks-spec = tie.close (tie.spec invariant-loop decreases-loop loop-holds mark-requires add-c loop-less loop-again returns)

@@ -2,13 +2,13 @@
 -- Assumes nothing.
 use Rattle.std.proofs.Common.{◌≡◌, ℕ, ◌+◌, ◌-◌, ◌≤◌, ap, arith, rules}
 use Rattle.meaning.specs.Words.{words_of}
-use Rattle.meaning.specs.State.{isMark, marked, one, countIn}
+use Rattle.meaning.specs.State.{is_mark, marked, one, count_in}
 use Rattle.states.proofs.Counted.{count_next, count_none}
 use Rattle.states.proofs.marked_between.Statement.{statement}
 use Rattle.states.proofs.marked_between.Tie as tie
 
 abbrev invariant-loop : tie.invariant-loop
-invariant-loop state first end n₀ c₀ n c = (n + first ≤ c) × (n + countIn (marked (words_of state)) c (end - c) ≡ countIn (marked (words_of state)) first (end - first))
+invariant-loop state first end n₀ c₀ n c = (n + first ≤ c) × (n + count_in (marked (words_of state)) c (end - c) ≡ count_in (marked (words_of state)) first (end - first))
 
 abbrev decreases-loop : tie.decreases-loop
 decreases-loop state first end n₀ c₀ n c = end - c
@@ -36,7 +36,7 @@ loop-again c =
     let m = c.before in
     let l = m.before.before in
     let a = l.before.before.args in
-    (omega arith, omega (arith, ap (λ (x : ℕ). one (isMark x)) m.mark.ensures, count_next (marked (words_of a.state.now)) l.loop.c a.end (omega arith)))
+    (omega arith, omega (arith, ap (λ (x : ℕ). one (is_mark x)) m.mark.ensures, count_next (marked (words_of a.state.now)) l.loop.c a.end (omega arith)))
 
 returns : tie.Need-returns invariant-loop decreases-loop
 returns c =

@@ -6,7 +6,7 @@ use native.Mathlib.Numerals.{towards_suc}
 use lib.ListN.{length-set}
 use native.Mathlib.Omega.{arith}
 use borrow.Author.Rules.{rules}
-use Rattle.words.specs.Stores.{putWords}
+use Rattle.words.specs.Stores.{put_words}
 use Rattle.words.proofs.put_word.Statement.{statement}
 use Rattle.words.proofs.put_word.Tie as tie
 
@@ -50,7 +50,7 @@ same_length : tie.Need-same-length
 same_length c = search rules
 
 returns : tie.Need-returns
-unfolding putWords
+unfolding put_words
 returns c =
     let low : c.args.w / 2 ^ 0 ≡ c.args.w = omega arith in
     simp (towards_suc, low)

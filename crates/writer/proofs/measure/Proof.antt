@@ -6,21 +6,21 @@ use Prim.Native.Nat.{ℕ}
 use native.Mathlib.Omega.{arith}
 use lib.ListN.{length}
 use mir.Facts.{eqb_yes}
-use Rattle.laws.proofs.Arms.{told-true, told-false}
+use Rattle.laws.proofs.Arms.{told_true, told_false}
 use Rattle.laws.proofs.Tests.{holds_of}
 use Rattle.meaning.specs.declared.Answer.{Answer}
 use Rattle.meaning.specs.Words.{words_of}
 use Rattle.meaning.specs.Registers.{cells}
-use Rattle.meaning.specs.Grants.{grantsFine, termsOf}
-use Rattle.meaning.specs.State.{stateWords, wellFormed}
-use Rattle.meaning.specs.Pair.{pairFine}
+use Rattle.meaning.specs.Grants.{grants_fine, terms_of}
+use Rattle.meaning.specs.State.{state_words, well_formed}
+use Rattle.meaning.specs.Pair.{pair_fine}
 use Rattle.meaning.specs.Answers.{answer}
 use Rattle.grants.specs.Kept.{Keeps, Names, Bounded}
 use Rattle.search.specs.Search.{lowest}
-use Rattle.meaning.proofs.States.{formed-iff}
-use Rattle.keeping.proofs.Keeping.{begun-by, names-after, kept-after, near-after}
-use Rattle.writer.specs.Lowest.{lowestWith}
-use Rattle.writer.proofs.Answers.{passed, paired, as_written, refused-state, refused-grants, refused-cell, done}
+use Rattle.meaning.proofs.States.{formed_iff}
+use Rattle.keeping.proofs.Keeping.{begun_by_lem, names_after, kept_after, near_after}
+use Rattle.writer.specs.Lowest.{lowest_with}
+use Rattle.writer.proofs.Answers.{passed, paired, as_written, refused_state, refused_grants, refused_cell, done}
 use borrow.Author.Rules.{rules}
 use Rattle.writer.proofs.measure.Statement.{statement}
 use Rattle.writer.proofs.measure.Tie as tie
@@ -36,14 +36,14 @@ refused-requires : tie.Need-refused-requires
 refused-requires c κs = search rules
 
 returns : tie.Need-returns
-returns c = let t = c.before in refusal c.refused.ensures (refused-state _ _ (told-false t.before.well-formed-2.ensures t.if1.true)) (λ e. omega arith)
+returns c = let t = c.before in refusal c.refused.ensures (refused_state _ _ (told_false t.before.well-formed-2.ensures t.if1.true)) (λ e. omega arith)
 
--- the state is well-formed, and so it is whole
-formed : (c : tie.Else1) → wellFormed (words_of c.before.before.before.before.args.state.now) ≡ true
-formed c = told-true c.before.well-formed-2.ensures c.if1.false
+-- the state is well_formed, and so it is whole
+formed : (c : tie.Else1) → well_formed (words_of c.before.before.before.before.args.state.now) ≡ true
+formed c = told_true c.before.well-formed-2.ensures c.if1.false
 
-formed-whole : (c : tie.Else1) → length (words_of c.before.before.before.before.args.state.now) ≡ stateWords
-formed-whole c = ((formed-iff _).0 (holds_of (formed c))).size
+formed-whole : (c : tie.Else1) → length (words_of c.before.before.before.before.args.state.now) ≡ state_words
+formed-whole c = ((formed_iff _).0 (holds_of (formed c))).size
 
 begin-requires : tie.Need-begin-requires
 begin-requires c κs = search rules
@@ -55,7 +55,7 @@ returns-2 : tie.Need-returns-2
 returns-2 c =
     let t = c.before in
     let k = t.before in
-    refusal c.refused2.ensures (refused-grants _ _ (formed k.before.before) (told-false k.begin.ensures.0 t.if2.true)) (λ e. omega arith)
+    refusal c.refused2.ensures (refused_grants _ _ (formed k.before.before) (told_false k.begin.ensures.0 t.if2.true)) (λ e. omega arith)
 
 -- the grants keep their rules
 abbrev else-1 : tie.Else2 → tie.Else1
@@ -64,22 +64,22 @@ else-1 c = c.before.before.before
 abbrev start : tie.Else2 → tie.Start
 start c = (else-1 c).before.before.before.before
 
-fine : (c : tie.Else2) → grantsFine (words_of (start c).args.grants.now) ≡ true
-fine c = told-true c.before.begin.ensures.0 c.if2.false
+fine : (c : tie.Else2) → grants_fine (words_of (start c).args.grants.now) ≡ true
+fine c = told_true c.before.begin.ensures.0 c.if2.false
 
 place-requires : tie.Need-place-requires
-place-requires c κs = let x = c.before.before.before.before in (holds_of (fine x), x.before.begin.ensures.1 ∙ begun-by _ (fine x))
+place-requires c κs = let x = c.before.before.before.before in (holds_of (fine x), x.before.begin.ensures.1 ∙ begun_by_lem _ (fine x))
 
 -- and are kept
 abbrev else-2 : tie.After-place → tie.Else2
 else-2 c = c.before.before.before.before.before
 
 named : (c : tie.After-place) → let k = c.place.new in
-    Names (termsOf (words_of (start (else-2 c)).args.grants.now)) k.1.0 k.1.1.0 k.1.1.1.0 k.1.1.1.1.0 × Bounded k.1.1.1.1.0
-named c = names-after _ _ _ _ (refl, (refl, refl)) (fine (else-2 c)) c.place.ensures
+    Names (terms_of (words_of (start (else-2 c)).args.grants.now)) k.1.0 k.1.1.0 k.1.1.1.0 k.1.1.1.1.0 × Bounded k.1.1.1.1.0
+named c = names_after _ _ _ _ (refl, (refl, refl)) (fine (else-2 c)) c.place.ensures
 
-kept : (c : tie.After-place) → let k = c.place.new in Keeps (termsOf (words_of (start (else-2 c)).args.grants.now)) k.1.0 k.1.1.0 k.1.1.1.1.0
-kept c = (kept-after _ _ _ _ (refl, (refl, refl)) (fine (else-2 c)) c.place.ensures).0
+kept : (c : tie.After-place) → let k = c.place.new in Keeps (terms_of (words_of (start (else-2 c)).args.grants.now)) k.1.0 k.1.1.0 k.1.1.1.1.0
+kept c = (kept_after _ _ _ _ (refl, (refl, refl)) (fine (else-2 c)) c.place.ensures).0
 
 lowest-bad-requires : tie.Need-lowest-bad-requires
 lowest-bad-requires c κs = let p = c.before.before.before.before in (holds_of (formed (else-1 (else-2 p))), (named p).1)
@@ -100,7 +100,7 @@ with-pair-requires c κs =
       (
         rw its ((named p).1 1 (omega arith)),
         λ t l. passed (words_of a.grants.now) (words_of a.state.now) k.1.0 k.1.1.0 k.1.1.1.0 k.1.1.1.1.0 (named p).0
-            (near-after _ _ _ _ (refl, (refl, refl)) (fine (else-2 p)) p.place.ensures (eqb_yes (holds_of t)))
+            (near_after _ _ _ _ (refl, (refl, refl)) (fine (else-2 p)) p.place.ensures (eqb_yes (holds_of t)))
             (c.before.before.before.before.before.lowest-bad.ensures _ (kept p)) its l,
       ),
     )
@@ -112,25 +112,25 @@ placed c = c.before.before.before.before.before.before.before.before.before.befo
 abbrev entry : tie.After-with-pair → tie.Start
 entry c = start (else-2 (placed c))
 
-low : (c : tie.After-with-pair) → let a = (entry c).args in let g = termsOf (words_of a.grants.now) in let st = words_of a.state.now in
-    c.with_pair.result ≡ lowestWith (pairFine g st) (lowest g st 0 cells)
+low : (c : tie.After-with-pair) → let a = (entry c).args in let g = terms_of (words_of a.grants.now) in let st = words_of a.state.now in
+    c.with_pair.result ≡ lowest_with (pair_fine g st) (lowest g st 0 cells)
 low c =
     let p = placed c in
     let a = (entry c).args in
     let k = p.place.last in
     paired (words_of a.grants.now) (words_of a.state.now) (holds_of (fine (else-2 p))) k.1.0 k.1.1.0 k.1.1.1.0 k.1.1.1.1.0 (named p).0 (c.before.before.before.before.before.before.lowest-bad.ensures _ (kept p)) c.before.before.before.before.part_of.ensures c.with_pair.ensures
 
-abbrev formed-at : (c : tie.After-with-pair) → wellFormed (words_of (entry c).args.state.now) ≡ true
+abbrev formed-at : (c : tie.After-with-pair) → well_formed (words_of (entry c).args.state.now) ≡ true
 formed-at c = formed (else-1 (else-2 (placed c)))
 
-abbrev fine-at : (c : tie.After-with-pair) → grantsFine (words_of (entry c).args.grants.now) ≡ true
+abbrev fine-at : (c : tie.After-with-pair) → grants_fine (words_of (entry c).args.grants.now) ≡ true
 fine-at c = fine (else-2 (placed c))
 
 refused-requires-3 : tie.Need-refused-requires-3
 refused-requires-3 c κs = search rules
 
 returns-3 : tie.Need-returns-3
-returns-3 c = let l = c.before.before in refusal c.refused3.ensures (refused-cell _ _ (formed-at l) (fine-at l) (low l) (omega (arith, c.before.if3.true))) (λ e. omega arith)
+returns-3 c = let l = c.before.before in refusal c.refused3.ensures (refused_cell _ _ (formed-at l) (fine-at l) (low l) (omega (arith, c.before.if3.true))) (λ e. omega arith)
 
 needed-requires : tie.Need-needed-requires
 needed-requires c κs = formed-whole (else-1 (else-2 (placed c.before)))

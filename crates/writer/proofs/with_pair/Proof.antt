@@ -7,7 +7,7 @@ use Prim.Native.Nat.{ℕ, ◌<◌}
 use native.Mathlib.Omega.{arith}
 use lib.Dec.{eqb}
 use borrow.Author.Tests.{ne_eqb, eqb-false, not-true}
-use Rattle.laws.proofs.Arms.{told-true, told-false}
+use Rattle.laws.proofs.Arms.{told_true, told_false}
 use Rattle.writer.proofs.with_pair.Statement.{statement}
 use Rattle.writer.proofs.with_pair.Tie as tie
 
@@ -33,12 +33,12 @@ fine-requires c κs =
 returns-2 : tie.Need-returns-2
 returns-2 c =
     let else = c.before.before.before in
-    rw (ne_eqb else.before.before.args.found 0 else.if1.false, told-false c.before.fine.ensures c.if3.true)
+    rw (ne_eqb else.before.before.args.found 0 else.if1.false, told_false c.before.fine.ensures c.if3.true)
 
 returns-3 : tie.Need-returns-3
 returns-3 c =
     let else = c.before.before.before in
-    rw (ne_eqb else.before.before.args.found 0 else.if1.false, told-true c.before.fine.ensures c.if3.false)
+    rw (ne_eqb else.before.before.args.found 0 else.if1.false, told_true c.before.fine.ensures c.if3.false)
 
 pub with-pair-spec : {M : Type 1} → statement M
 with-pair-spec = tie.close (tie.spec returns fine-requires returns-2 returns-3)

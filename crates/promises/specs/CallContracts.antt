@@ -8,56 +8,56 @@ use Rattle.meaning.specs.declared.Which.{Which}
 use Rattle.meaning.specs.declared.Answer.{Answer}
 use Rattle.meaning.specs.Words.{Byte, words_of, bytes_of}
 use Rattle.meaning.specs.Registers.{cell}
-use Rattle.meaning.specs.Grants.{Terms, mostGrants, grantsOf}
+use Rattle.meaning.specs.Grants.{Terms, most_grants, grants_of}
 use Rattle.meaning.specs.Answers.{success, answer, number_of, settle}
-use Rattle.meaning.specs.Reader.{readAnswer, readLeaves}
-use Rattle.meaning.specs.Writer.{written, sizeAnswer, writeAnswer}
-use Rattle.meaning.specs.Query.{queryAnswer}
-use Rattle.meaning.specs.Lister.{listAnswer, listLeaves}
-use Rattle.meaning.specs.ListingReader.{listingAnswer, listingLeaves}
-use Rattle.meaning.specs.Exported.{bufferFine, wordBufferFine, exportedRead, exportedReadLeaves, exportedSize, exportedWrite, exportedWriteLeaves, exportedList, exportedListLeaves, exportedReadListing, exportedReadListingLeaves, exportedWhichGrant}
-use Rattle.grants.specs.Kept.{Keeps, part_of, whichIn}
-use Rattle.keeping.specs.Keeping.{keptOf}
+use Rattle.meaning.specs.Reader.{read_answer, read_leaves}
+use Rattle.meaning.specs.Writer.{written, size_answer, write_answer}
+use Rattle.meaning.specs.Query.{query_answer}
+use Rattle.meaning.specs.Lister.{list_answer, list_leaves}
+use Rattle.meaning.specs.ListingReader.{listing_answer, listing_leaves}
+use Rattle.meaning.specs.Exported.{buffer_fine, word_buffer_fine, exported_read, exported_read_leaves, exported_size, exported_write, exported_write_leaves, exported_list, exported_list_leaves, exported_read_listing, exported_read_listing_leaves, exported_which_grant}
+use Rattle.grants.specs.Kept.{Keeps, part_of, which_in}
+use Rattle.keeping.specs.Keeping.{kept_of}
 use Rattle.asking.specs.Asked.{capped}
 use Rattle.feeding.specs.Steps.{closes, leaves}
 use Rattle.engine.specs.declared.Engine.{Engine}
 use Rattle.engine.specs.declared.Closed.{Closed}
-use Rattle.engine.specs.Kept.{openedWith, fedWith, opening, standing, pairJudged, behind}
+use Rattle.engine.specs.Kept.{opened_with, fed_with, opening, standing, pair_judged, behind}
 
 -- `reader::read` on the bytes of a batch, of a grant list and of a state answers a and leaves the bytes `left` of the state. The words
 -- over the front of the state's bytes are those that the definitions leave; bytes past the last whole word stay
 abbrev pub Reading : List ℕ → List ℕ → List ℕ → Answer → List ℕ → Type 0
 Reading batch grants st a left =
-    (a ≡ readAnswer (words_of batch) (words_of grants) (words_of st))
-    × (left ≡ settle a (over (bytes_of (readLeaves (words_of batch) (words_of grants) (words_of st))) st) st)
+    (a ≡ read_answer (words_of batch) (words_of grants) (words_of st))
+    × (left ≡ settle a (over (bytes_of (read_leaves (words_of batch) (words_of grants) (words_of st))) st) st)
 
 -- `writer::size` on the bytes of a state and of a grant list answers a. No buffer is lent to be changed
 abbrev pub Sizing : List ℕ → List ℕ → Answer → Type 0
-Sizing st grants a = a ≡ sizeAnswer (words_of st) (words_of grants)
+Sizing st grants a = a ≡ size_answer (words_of st) (words_of grants)
 
 -- `writer::write` on the bytes of a state, of a grant list and of an output answers a and leaves the bytes `left` of the output
 abbrev pub Writing : List ℕ → List ℕ → List ℕ → Answer → List ℕ → Type 0
 Writing st grants out a left =
-    (a ≡ writeAnswer (words_of st) (words_of grants) (length out / 4)) × (left ≡ settle a (over (bytes_of (written (words_of st))) out) out)
+    (a ≡ write_answer (words_of st) (words_of grants) (length out / 4)) × (left ≡ settle a (over (bytes_of (written (words_of st))) out) out)
 
 -- what a caller is told who asks the size first, and then has the state written unless the size is refused: the answer z of the one, or the
 -- answer a of the other
-abbrev pub sizeFirst : Answer → Answer → Answer
-sizeFirst z a = cond (eqb z.reason success) a z
+abbrev pub size_first : Answer → Answer → Answer
+size_first z a = cond (eqb z.reason success) a z
 
 -- `lister::list` on the bytes of a state and an output answers a and leaves the output `left`
 abbrev pub Listing : List ℕ → List ℕ → Answer → List ℕ → Type 0
-Listing st out a left = (a ≡ listAnswer (words_of st) (length out)) × (left ≡ listLeaves (words_of st) out)
+Listing st out a left = (a ≡ list_answer (words_of st) (length out)) × (left ≡ list_leaves (words_of st) out)
 
 -- `listing_reader::read_listing` on the bytes of a text and of a state answers a and leaves the bytes `left` of the state. As with the reader,
 -- the words over the front are those that the definitions leave
 abbrev pub ReadingListing : List ℕ → List ℕ → Answer → List ℕ → Type 0
 ReadingListing text st a left =
-    (a ≡ listingAnswer text (words_of st)) × (left ≡ settle a (over (bytes_of (listingLeaves text (words_of st))) st) st)
+    (a ≡ listing_answer text (words_of st)) × (left ≡ settle a (over (bytes_of (listing_leaves text (words_of st))) st) st)
 
 -- `query::which_grant` on the bytes of a state and of a grant list, and on any number, answers a. No buffer is lent to be changed
 abbrev pub Querying : List ℕ → List ℕ → ℕ → Answer → Type 0
-Querying st grants c a = a ≡ queryAnswer (words_of st) (words_of grants) (cell c)
+Querying st grants c a = a ≡ query_answer (words_of st) (words_of grants) (cell c)
 
 -- the test that all of them use: in the part of a role of what `keeping::place` left of a grant list, in whatever room it was lent,
 -- `grants::which` answers w to an address, in whichever memory or in one
@@ -65,27 +65,27 @@ pub record Testing (ws : List ℕ) (m : Memory) (role a : ℕ) (w : Which) : Typ
   pub starts : List ℕ
   pub lasts : List ℕ
   pub numbers : List ℕ
-  pub room : (length starts ≡ mostGrants) × ((length lasts ≡ mostGrants) × (length numbers ≡ mostGrants))
-  pub told : let k = keptOf (grantsOf ws) starts lasts numbers in w ≡ whichIn k.starts k.lasts k.numbers (part_of k.bounds role) m a
+  pub room : (length starts ≡ most_grants) × ((length lasts ≡ most_grants) × (length numbers ≡ most_grants))
+  pub told : let k = kept_of (grants_of ws) starts lasts numbers in w ≡ which_in k.starts k.lasts k.numbers (part_of k.bounds role) m a
 
 -- ---- the engine
 
 -- `engine::open` on the bytes of a state and of a grant list makes the engine e
 abbrev pub Opening : List ℕ → List ℕ → Engine → Type 0
-Opening st grants e = e ≡ openedWith (words_of st) (words_of grants)
+Opening st grants e = e ≡ opened_with (words_of st) (words_of grants)
 
 -- `engine::feed` makes the engine r of the engine e and a word, under whatever grants e keeps
 abbrev pub Feeding : Engine → ℕ → Engine → Type 0
-Feeding e w r = (g : Terms) → Keeps g e.starts e.lasts (capped e.bounds) → r ≡ fedWith g e w
+Feeding e w r = (g : Terms) → Keeps g e.starts e.lasts (capped e.bounds) → r ≡ fed_with g e w
 
 -- `engine::close` makes c of the engine e: an answer and a state
 abbrev pub Closing : Engine → Closed → Type 0
-Closing e c = (c.answer ≡ closes (pairJudged e) (standing e)) × (c.state ≡ leaves (pairJudged e) (standing e) (behind e) (opening e))
+Closing e c = (c.answer ≡ closes (pair_judged e) (standing e)) × (c.state ≡ leaves (pair_judged e) (standing e) (behind e) (opening e))
 
 -- an engine that was opened with the bytes of a state and of a grant list, and then fed these words, one after another
 pub data Fed (st grants : List ℕ) : List ℕ → Engine → Type 0 where
-  just-opened : {e : Engine} → Opening st grants e → Fed st grants [] e
-  and-fed : {ws : List ℕ} {e r : Engine} (w : ℕ) → Fed st grants ws e → Feeding e w r → Fed st grants (ws ++ (w ∷ [])) r
+  just_opened : {e : Engine} → Opening st grants e → Fed st grants [] e
+  and_fed : {ws : List ℕ} {e r : Engine} (w : ℕ) → Fed st grants ws e → Feeding e w r → Fed st grants (ws ++ (w ∷ [])) r
 
 -- the answer to the last call
 abbrev pub answered : Engine → Answer
@@ -95,40 +95,40 @@ answered e = answer e.reason e.place
 
 -- `irangelda_read` on the bytes of a batch, of a grant list and of a state answers the number n and leaves the bytes `left` of the state
 abbrev pub ReadingBytes : List ℕ → List ℕ → List ℕ → ℕ → List ℕ → Type 0
-ReadingBytes batch grants st n left = (n ≡ number_of (exportedRead batch grants st)) × (left ≡ exportedReadLeaves batch grants st)
+ReadingBytes batch grants st n left = (n ≡ number_of (exported_read batch grants st)) × (left ≡ exported_read_leaves batch grants st)
 
 -- `irangelda_size` on the bytes of a state and of a grant list answers n
 abbrev pub SizingBytes : List ℕ → List ℕ → ℕ → Type 0
-SizingBytes st grants n = n ≡ number_of (exportedSize st grants)
+SizingBytes st grants n = n ≡ number_of (exported_size st grants)
 
 -- `irangelda_write` on the bytes of a state, of a grant list and of an output answers n and leaves the output `left`
 abbrev pub WritingBytes : List ℕ → List ℕ → List ℕ → ℕ → List ℕ → Type 0
-WritingBytes st grants out n left = (n ≡ number_of (exportedWrite st grants out)) × (left ≡ exportedWriteLeaves st grants out)
+WritingBytes st grants out n left = (n ≡ number_of (exported_write st grants out)) × (left ≡ exported_write_leaves st grants out)
 
 -- `irangelda_list` on the bytes of a state and an output answers n and leaves the output `left`
 abbrev pub ListingBytes : List ℕ → List ℕ → ℕ → List ℕ → Type 0
-ListingBytes st out n left = (n ≡ number_of (exportedList st out)) × (left ≡ exportedListLeaves st out)
+ListingBytes st out n left = (n ≡ number_of (exported_list st out)) × (left ≡ exported_list_leaves st out)
 
 -- `irangelda_read_listing` on the bytes of a text and of a state answers n and leaves the bytes `left` of the state
 abbrev pub ReadingListingBytes : List ℕ → List ℕ → ℕ → List ℕ → Type 0
-ReadingListingBytes text st n left = (n ≡ number_of (exportedReadListing text st)) × (left ≡ exportedReadListingLeaves text st)
+ReadingListingBytes text st n left = (n ≡ number_of (exported_read_listing text st)) × (left ≡ exported_read_listing_leaves text st)
 
 -- `irangelda_which_grant` on the bytes of a state and of a grant list, and on any number, answers n
 abbrev pub QueryingBytes : List ℕ → List ℕ → ℕ → ℕ → Type 0
-QueryingBytes st grants c n = n ≡ number_of (exportedWhichGrant st grants (cell c))
+QueryingBytes st grants c n = n ≡ number_of (exported_which_grant st grants (cell c))
 
 -- what 13 lets through: not Y13 "a buffer has more than 65,536 bytes, or a buffer of words has a length that is no multiple of 4". The
 -- buffers of reader and writer are words,
 abbrev pub WordBuffers : List ℕ → List ℕ → List ℕ → Type 0
-WordBuffers a b c = T (every wordBufferFine (a ∷ b ∷ c ∷ []))
+WordBuffers a b c = T (every word_buffer_fine (a ∷ b ∷ c ∷ []))
 
 -- and so is the state of lister and listing reader; their other buffer is text
 abbrev pub ListerBuffers : List ℕ → List ℕ → Type 0
-ListerBuffers st text = T (wordBufferFine st && bufferFine text)
+ListerBuffers st text = T (word_buffer_fine st && buffer_fine text)
 
 -- and both buffers of size and query
 abbrev pub TwoBuffers : List ℕ → List ℕ → Type 0
-TwoBuffers st grants = T (wordBufferFine st && wordBufferFine grants)
+TwoBuffers st grants = T (word_buffer_fine st && word_buffer_fine grants)
 
 -- C3 "A C call answers one number: place × 256 + reason.": its reason and its place are those of a
 abbrev pub Tells : ℕ → Answer → Type 0
