@@ -1,4 +1,6 @@
 // What a word is asked by its position, for words that come one at a time: the reader's own questions, and where the next word stands.
+#![tactic(auto)]
+
 ghost use Rattle.std.specs.Prelude.{◌≡◌, suc, ◌≤◌, ◌<◌, ◌^◌};
 ghost use Rattle.meaning.specs.declared.Kind.{Kind};
 ghost use Rattle.meaning.specs.declared.Kind.TheVariants as kinds;
@@ -18,7 +20,7 @@ pub type ByteBounds = [u8; BOUNDS];
 // What speaks against a word, 0 where nothing does. Then `left` and `under` are the next word's position, and `cell` and `value` what the
 // word writes: no cell's number where it writes none. A position is how many words the open packet still wants, and what the next of them
 // stands under: 0 before the setting, then the setting; in a run the offset that it is bound for.
-#[derive(Drop)]
+#[derive(Clone, Copy)]
 pub struct Asked {
     pub reason: u32,
     pub left: u32,

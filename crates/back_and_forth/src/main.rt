@@ -3,6 +3,8 @@
 // up: listings of states of every number of cells, whole or damaged in one place. A whole one has to give its state back,
 // and that state the same listing. It prints how many calls each family made and how many of all differed, how often each
 // reason was told, and in which part of a listing texts stopped being one.
+#![tactic(auto)]
+
 mod calls;
 mod desk;
 mod families;

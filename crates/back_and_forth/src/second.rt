@@ -10,7 +10,7 @@ use super::desk::{
 // What is known when so many bytes are taken: the next one's column in its line, whether that is the first line, how many
 // lines are wanted from here on, the last eight hex digits, and the cells that the line may be of, those from low to
 // before end. The lines are in the order of their texts too, so cells whose lines begin alike stand side by side.
-#[derive(Drop)]
+#[derive(Clone, Copy)]
 struct Known {
     taken: usize,
     column: usize,

@@ -4,6 +4,8 @@
 // byte of every buffer too. It prints how many calls each family made, how many words it fed, and how many of all
 // differed; how often each reason was told; and how many of the made-up values for each row of the table are taken or
 // refused.
+#![tactic(auto)]
+
 mod calls;
 mod desk;
 mod families;

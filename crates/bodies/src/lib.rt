@@ -1,6 +1,8 @@
 // The words of one packet's body, from place `first` to before `end`: each is judged and, where nothing speaks against it, stored. The
 // callers lend a state of their own, so that a refusal leaves nothing half done where it matters. There is a loop for parameters, and one
 // for each kind of video row.
+#![tactic(auto)]
+
 ghost use Rattle.std.specs.Prelude.{◌≡◌, ℕ, ◌+◌, ◌-◌, ◌<◌, ◌≤◌};
 ghost use Rattle.std.proofs.Math.Seq.{slice};
 ghost use Rattle.meaning.specs.declared.Kind.TheVariants as kinds;

@@ -4,6 +4,8 @@
 // state, grants and words; beside the lister runs a second one that shares nothing with it, on every state that a case
 // leaves. It prints how many calls each family made and how many answers or buffers were not as expected,
 // and how often each reason was told.
+#![tactic(auto)]
+
 mod calls;
 mod desk;
 mod listing;

@@ -1,4 +1,6 @@
 // What is asked of a cell of a state: that it is unmarked, or holds a value that its register may.
+#![tactic(auto)]
+
 ghost use Rattle.std.specs.Prelude.{◌≡◌, ℕ, ◌≤◌, ◌<◌, ◌^◌, T, ltb, length};
 ghost use Rattle.meaning.specs.Words.{words_of};
 ghost use Rattle.meaning.specs.Registers.{cells, cell, register_at};
@@ -14,7 +16,7 @@ use meaning::Cell;
 
 // The rows of the register table. A stage's two registers are alike, and so are those of 2208 and 220C and the later two addresses of a
 // scaler.
-#[derive(Drop)]
+#[derive(Clone, Copy)]
 pub enum Row {
     AlphaConstants,
     TargetAddress,

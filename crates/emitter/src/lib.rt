@@ -1,4 +1,6 @@
 // The words of the batch that reaches a state: those of its 3D groups, then those of its video cells.
+#![tactic(auto)]
+
 ghost use Rattle.std.specs.Prelude.{◌≡◌, ◌+◌, ◌/◌, ◌<◌, ◌≤◌, length};
 ghost use Rattle.laws.specs.Lists.{over};
 ghost use Rattle.meaning.specs.Words.{words_of, bytes_of};

@@ -1,4 +1,6 @@
 // The words of the 3D groups of a state, in cell order.
+#![tactic(auto)]
+
 ghost use Rattle.std.specs.Prelude.{◌≡◌, ◌+◌, ◌*◌, ◌/◌, ◌<◌, ◌≤◌, ◌^◌, length};
 ghost use Rattle.meaning.specs.Words.{words_of};
 ghost use Rattle.meaning.specs.Registers.{cells, first_video, sections_3d};

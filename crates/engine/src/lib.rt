@@ -1,5 +1,7 @@
 // The engine: a batch word by word. It is a struct by value: opened with a state and grants, fed a word at a time, closed. After opening
 // and after each word, its `reason` and `place` are the answer.
+#![tactic(auto)]
+
 ghost use Rattle.std.specs.Prelude.{◌≡◌, cond, ◌++◌, ◌≤◌, ◌<◌, ◌%◌, length, take};
 ghost use Rattle.meaning.specs.Words.{words_of};
 ghost use Rattle.meaning.specs.Registers.{cells};

@@ -1,5 +1,7 @@
 // Feeds a batch on standard input to an engine, word by word, and prints the answer at closing. The engine is opened with the
 // empty state and the grants that the batches of bench/run need. bench/engine counts its instructions.
+#![tactic(auto)]
+
 use libc::{STDIN_FILENO, STDOUT_FILENO};
 use meaning::Answer;
 

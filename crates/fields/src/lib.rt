@@ -1,4 +1,6 @@
 // The parts of a word: of a header, of a setting, of a parameter.
+#![tactic(auto)]
+
 ghost use Rattle.std.specs.Prelude.{◌≡◌};
 ghost use Rattle.meaning.specs.Words as parts;
 

@@ -1,4 +1,6 @@
 // Grants kept by role, each as the first and the last address that it covers, so that a test is two comparisons, and with its number.
+#![tactic(auto)]
+
 ghost use Rattle.std.specs.Prelude.{◌≡◌, ◌≤◌, ◌<◌};
 ghost use Rattle.meaning.specs.declared.Which.TheVariants as by;
 ghost use Rattle.meaning.specs.Grants.{most_grants};
@@ -25,7 +27,7 @@ pub const IN_MEMORY_1: usize = 4;
 pub type Bounds = [usize; BOUNDS];
 
 // The kept grants of one role.
-#[derive(Drop)]
+#[derive(Clone, Copy)]
 pub struct Part {
     pub from: usize,
     pub to: usize,

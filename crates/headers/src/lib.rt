@@ -1,11 +1,13 @@
 // What a header opens, and the group that a setting names: 3, 4 and 5. The words behind them are asked in `judging`.
+#![tactic(auto)]
+
 ghost use Rattle.std.specs.Prelude.{◌≡◌, ◌≤◌, ◌<◌, ◌^◌};
 ghost use Rattle.headers.specs.Headers.{run_reason, scaler_at, overlay_run, scaler_run, header_of, group_of};
 
 use meaning::{BAD_COUNT, BAD_OFFSET, Cell, SUCCESS, VideoOffset};
 
 // A run of a scaler's registers: the cell of its first register, the role of its addresses, and the number of the run's first register.
-#[derive(Drop)]
+#[derive(Clone, Copy)]
 pub struct ScalerRun {
     pub base: Cell,
     pub role: usize,
@@ -14,7 +16,7 @@ pub struct ScalerRun {
 
 // What stands behind a header: nothing, since it is refused; a setting and parameters; a run from register `index` of 2208 to 2210 on; a
 // run of a scaler's registers.
-#[derive(Drop)]
+#[derive(Clone, Copy)]
 pub enum Header {
     Refused(u32),
     Setting,
@@ -23,7 +25,7 @@ pub enum Header {
 }
 
 // The registers of a type and sub-type: 01.00, a stage or a sample, each with the cell of its first register, or none.
-#[derive(Drop)]
+#[derive(Clone, Copy)]
 pub enum Group {
     Target,
     Stage(Cell),
@@ -32,7 +34,7 @@ pub enum Group {
 }
 
 // An offset among the registers of a scaler: the cell of the first, the role of its addresses, and the bytes between.
-#[derive(Drop)]
+#[derive(Clone, Copy)]
 pub struct ScalerOffset {
     pub base: Cell,
     pub role: usize,

@@ -1,4 +1,6 @@
 // The calls of the driver: every buffer is bytes, and the answer is one number.
+#![tactic(auto)]
+
 ghost use Rattle.std.specs.Prelude.{◌≡◌, ◌&&◌, [], ◌∷◌, ◌≤◌};
 ghost use Rattle.laws.specs.Lists.{every};
 ghost use Rattle.meaning.specs.Answers.{number_of};

@@ -1,5 +1,7 @@
 // What speaks against a word by its position: a parameter of a group, a word of a run. What each row of the table asks is in
 // `rows_3d` and `rows_video`.
+#![tactic(auto)]
+
 ghost use Rattle.std.specs.Prelude.{◌≡◌, ℕ, ◌+◌, ◌≤◌, ◌<◌, ◌^◌};
 ghost use Rattle.meaning.specs.Registers.{first_video, cell, register_at};
 ghost use Rattle.meaning.specs.Grants.{Terms, most_grants};
@@ -15,7 +17,7 @@ use headers::Group;
 use meaning::{Cell, NO_REGISTER, SubAddress};
 
 // What speaks against a parameter, 0 where nothing does, and the cell that it is for; where it is for none, the reason is 6.
-#[derive(Drop)]
+#[derive(Clone, Copy)]
 pub struct Judged {
     pub reason: u32,
     pub cell: Cell,

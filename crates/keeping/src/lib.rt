@@ -1,4 +1,6 @@
 // The grant list: its rules, and how its grants come to be kept, each behind the others of its role.
+#![tactic(auto)]
+
 ghost use Rattle.std.specs.Prelude.{◌≡◌, true, ℕ, ◌≤◌, ◌<◌, T, get_or, set};
 ghost use Rattle.meaning.specs.Words.{words_of};
 ghost use Rattle.meaning.specs.Grants.{most_grants, grants_of, memory_fine, grant_fine, grants_fine};

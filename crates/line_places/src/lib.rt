@@ -1,4 +1,6 @@
 // How far a text goes along the lines that registers may have: for the place of a refusal.
+#![tactic(auto)]
+
 ghost use Rattle.std.specs.Prelude.{◌≡◌, ◌++◌, map, ◌+◌, ◌-◌, ◌<◌, ◌≤◌, max, length, drop, replicate};
 ghost use Rattle.meaning.specs.Registers.{cells, first_video, end_video};
 ghost use Rattle.meaning.specs.Text.{ascii};

@@ -1,5 +1,7 @@
 // The line of a register, read back: the cell that it names, and its value. Four bytes are compared at a time, and a digit is looked up in a
 // table, which the caller lends.
+#![tactic(auto)]
+
 ghost use Rattle.std.specs.Prelude.{◌≡◌, false, ◌+◌, ◌<◌, ◌≤◌, length, drop};
 ghost use Rattle.meaning.specs.Registers.{cells};
 ghost use Rattle.line_reader.specs.Named.{digit_or_16, digit_table, cell_3d_by, cell_3d_of, cell_video_of};
@@ -113,7 +115,7 @@ fn cell_video(offset: u32) -> usize
 }
 
 // The cell whose name stands in a line, CELLS if none does, and where the name ends.
-#[derive(Drop)]
+#[derive(Clone, Copy)]
 struct Name {
     cell: usize,
     end: usize,
@@ -143,7 +145,7 @@ fn name_at(digits: &[u8; 256], text: &[u8], at: usize) -> Name
 }
 
 // A value, if there is one.
-#[derive(Drop)]
+#[derive(Clone, Copy)]
 struct Value {
     fine: bool,
     value: u32,
@@ -196,7 +198,7 @@ fn value_at(digits: &[u8; 256], text: &[u8], at: usize) -> Value
 }
 
 // A line: its cell, CELLS if there is none, and its value.
-#[derive(Drop)]
+#[derive(Clone, Copy)]
 pub struct Line {
     pub cell: usize,
     pub value: u32,

@@ -1,5 +1,7 @@
 // The lines of a listing, one for a cell: stored byte by byte at a place of the output. The digits are read out of a table of pairs,
 // which the caller lends: a lookup costs half of what the arithmetic of two digits does.
+#![tactic(auto)]
+
 ghost use Rattle.std.specs.Prelude.{◌≡◌, ◌++◌, ◌+◌, ◌<◌, ◌≤◌, length};
 ghost use Rattle.std.proofs.lemmas.List.Edits.{sets};
 ghost use Rattle.meaning.specs.Registers.{first_video, end_video};

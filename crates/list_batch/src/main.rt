@@ -1,4 +1,6 @@
 // Lists the state that a batch on standard input leaves from the empty state, or says why the batch comes back.
+#![tactic(auto)]
+
 ghost use Rattle.std.specs.Prelude.{◌≡◌, ◌+◌, ◌≤◌, ◌<◌, length};
 ghost use Rattle.laws.specs.Lists.{over};
 ghost use Rattle.meaning.specs.Answers.{number_of};

@@ -1,5 +1,7 @@
 // The listing reader: a listing back to its state. The text is read once, into a state of its own, which takes the place of the lent one only
 // if the whole text is a listing. Only where a line does not fit are all lines tried that may stand there, for the place.
+#![tactic(auto)]
+
 ghost use Rattle.std.specs.Prelude.{◌≡◌, false, ◌<◌, ◌≤◌, length, drop};
 ghost use Rattle.laws.specs.Lists.{over};
 ghost use Rattle.meaning.specs.Words.{words_of, bytes_of};
@@ -98,7 +100,7 @@ fn decimal_of(x: u8) -> usize
 }
 
 // The count, and where its line ends; or that there is none, and the byte that shows it.
-#[derive(Drop)]
+#[derive(Clone, Copy)]
 struct Head {
     fine: bool,
     at: usize,

@@ -2,6 +2,8 @@
 // here.
 
 // How many cells there are, and which of them are video registers': those from FIRST_VIDEO on, to before END_VIDEO.
+#![tactic(auto)]
+
 pub const CELLS: usize = 101;
 
 pub const FIRST_VIDEO: usize = 84;
@@ -71,43 +73,43 @@ pub const ENGINE_FULL: u32 = 23;
 pub const BAD_BUFFER: u64 = 13;
 
 // R21 "three kinds of number, and no code may be able to exchange them": a cell of the state,
-#[derive(Drop)]
+#[derive(Clone, Copy)]
 pub struct Cell(pub usize);
 
 // the sub-address of a parameter,
-#[derive(Drop)]
+#[derive(Clone, Copy)]
 pub struct SubAddress(pub u32);
 
 // and the byte offset of a video register.
-#[derive(Drop)]
+#[derive(Clone, Copy)]
 pub struct VideoOffset(pub u32);
 
 // A state as the code holds it: the values, then the marks.
 pub type State = [u32; STATE_WORDS];
 
 // What a name names: the cell of a register, or no register of the table.
-#[derive(Drop)]
+#[derive(Clone, Copy)]
 pub enum Found {
     At(Cell),
     Missing,
 }
 
 // Where an address is asked about: in whichever memory, or in the one of a number.
-#[derive(Drop)]
+#[derive(Clone, Copy)]
 pub enum Memory {
     Either,
     Only(u32),
 }
 
 // Which grant admits an address: the one with a number, or none.
-#[derive(Drop)]
+#[derive(Clone, Copy)]
 pub enum Which {
     Grant(usize),
     Nobody,
 }
 
 // What the next word of an open packet is: the setting, a parameter under a setting, a word for a video register.
-#[derive(Drop)]
+#[derive(Clone, Copy)]
 pub enum Kind {
     Setting,
     Parameter(u32),
@@ -115,14 +117,14 @@ pub enum Kind {
 }
 
 // Where a word of a batch stands: how many words the open packet still wants, 0 if a header is next, and else of what kind the next is.
-#[derive(Drop)]
+#[derive(Clone, Copy)]
 pub struct Position {
     pub kind: Kind,
     pub left: usize,
 }
 
 // A reason, 0 for success, and a place.
-#[derive(Drop)]
+#[derive(Clone, Copy)]
 pub struct Answer {
     pub reason: u32,
     pub place: usize,

@@ -1,5 +1,7 @@
 // Reads a batch under the grants that stand before it on standard input, and writes which grant admits the address in each register that the
 // batch leaves, and the listing of the registers; or why the batch comes back.
+#![tactic(auto)]
+
 ghost use Rattle.std.specs.Prelude.{◌≡◌, ◌+◌, ◌*◌, ◌≤◌, T, length, take, drop};
 ghost use Rattle.laws.specs.Lists.{over};
 ghost use Rattle.meaning.specs.Words.{words_of};

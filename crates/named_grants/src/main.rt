@@ -2,6 +2,8 @@
 // calls by hand with their answers, then families of calls to make: lists in which each grant in turn is the one to tell,
 // states and lists that break their rules or nearly, made-up cases, and addresses that the reader takes or refuses. It
 // prints how many calls of each family were answered how, how often each grant was told, and how many answers differed.
+#![tactic(auto)]
+
 mod calls;
 mod desk;
 mod families;

@@ -1,4 +1,6 @@
 // How many words the batch of a state takes.
+#![tactic(auto)]
+
 ghost use Rattle.std.specs.Prelude.{◌≡◌, ◌+◌, ◌*◌, ◌≤◌, length};
 ghost use Rattle.meaning.specs.Words.{words_of};
 ghost use Rattle.meaning.specs.Registers.{cells, sections_3d};
@@ -38,7 +40,7 @@ fn series_need(state: &[u8], first: usize, rows: usize, count: usize) -> usize
 }
 
 // The words of the packets before the video packets, and of all.
-#[derive(Drop)]
+#[derive(Clone, Copy)]
 pub struct Need {
     pub before_video: usize,
     pub in_all: usize,

@@ -1,4 +1,6 @@
 // Packets one after another, read out of bytes. What a refusal leaves in the state is what the words before it wrote.
+#![tactic(auto)]
+
 ghost use Rattle.std.specs.Prelude.{◌≡◌, List, ℕ, ◌+◌, ◌/◌, ◌≤◌, ◌<◌, min, length, get_or, drop};
 ghost use Rattle.std.proofs.Math.Seq.{slice};
 ghost use Rattle.meaning.specs.declared.Kind.TheVariants as kinds;

@@ -1,5 +1,7 @@
 // The pair of cells 1 and 2, the target's address and its location, judged once behind the last word of a batch. A batch is read on a copy
 // of the state whose two marks are cleared: those that have come back tell what it wrote, and no flag goes through the loops.
+#![tactic(auto)]
+
 ghost use Rattle.std.specs.Prelude.{◌≡◌, true, ◌&&◌, ◌||◌, ◌≤◌, ltb, eqb, length};
 ghost use Rattle.meaning.specs.Words.{words_of};
 ghost use Rattle.meaning.specs.Grants.{most_grants};
@@ -12,7 +14,7 @@ use grants::{Numbers, Part, Spans};
 use meaning::{CELLS, Cell, LOCATION_CELL, Memory, State, TARGET_CELL, Which};
 
 // The two values, and their marks.
-#[derive(Drop)]
+#[derive(Clone, Copy)]
 pub struct Pair {
     pub target: u32,
     pub marked: u32,

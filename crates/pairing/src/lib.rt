@@ -1,1 +1,3 @@
 // The pair over any batch: theorems alone. There is no function here.
+
+#![tactic(auto)]

@@ -1,4 +1,6 @@
 // The query: which grant admits the address in a cell of a state.
+#![tactic(auto)]
+
 ghost use Rattle.std.specs.Prelude.{◌≡◌, ◌≢◌, List, ℕ, ◌<◌, T, length};
 ghost use Rattle.meaning.specs.declared.Memory.TheVariants.{Either};
 ghost use Rattle.meaning.specs.Words.{words_of};

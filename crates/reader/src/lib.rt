@@ -1,4 +1,6 @@
 // The reader: a batch is read on a copy of the state, which takes the state's place only if all of the batch is accepted.
+#![tactic(auto)]
+
 ghost use Rattle.std.specs.Prelude.{◌≡◌, length};
 ghost use Rattle.laws.specs.Lists.{over};
 ghost use Rattle.meaning.specs.Words.{words_of, bytes_of};

@@ -1,4 +1,6 @@
 // The register table: the name that a cell has.
+#![tactic(auto)]
+
 ghost use Rattle.std.specs.Prelude.{◌≡◌, ◌<◌, ◌≤◌};
 ghost use Rattle.meaning.specs.Registers.{first_video, end_video};
 ghost use Rattle.registers.specs.Names.{name_of, offset_of};
@@ -6,7 +8,7 @@ ghost use Rattle.registers.specs.Names.{name_of, offset_of};
 use meaning::{Cell, SubAddress, VideoOffset};
 
 // R19 "The name of a 3D register is its type, its sub-type and its sub-address, all three".
-#[derive(Drop)]
+#[derive(Clone, Copy)]
 pub struct Name {
     pub ty: u32,
     pub sub: u32,

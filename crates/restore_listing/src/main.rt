@@ -1,5 +1,7 @@
 // Reads a listing on standard input back, and writes the batch that makes its state of the empty one, or why there is none: numbers and words
 // as the C calls give them.
+#![tactic(auto)]
+
 ghost use Rattle.std.specs.Prelude.{◌≡◌, ◌+◌, ◌≤◌, length};
 ghost use Rattle.laws.specs.Lists.{over};
 ghost use Rattle.meaning.specs.Exported.{most_bytes};

@@ -1,5 +1,7 @@
 // What speaks against a value of a 3D register: a function for each row of the table; 0 where nothing does. Which register a word is for
 // is the callers' matter.
+#![tactic(auto)]
+
 ghost use Rattle.std.specs.Prelude.{◌≡◌, ℕ, ◌+◌, ◌*◌, ◌≤◌, ◌<◌, ◌^◌};
 ghost use Rattle.meaning.specs.Registers.{cell, register_at};
 ghost use Rattle.meaning.specs.Grants.{Terms, most_grants};

@@ -1,5 +1,7 @@
 // What speaks against a value of a video register: a function for each row of the table; 0 where nothing does. Which register a word is
 // for is the callers' matter.
+#![tactic(auto)]
+
 ghost use Rattle.std.specs.Prelude.{◌≡◌, ℕ, ◌+◌, ◌*◌, ◌≤◌, ◌<◌, eqb};
 ghost use Rattle.std.specs.Int.Bits.{bit_and};
 ghost use Rattle.meaning.specs.Words.{bits};

@@ -1,5 +1,7 @@
 // The columns "Must be clear" and "Values" of the register table: one test for each rule, under the names that the definitions have. The
 // rules for a sample's registers are in `sampling`.
+#![tactic(auto)]
+
 ghost use Rattle.std.specs.Prelude.{◌≡◌, eqb};
 ghost use Rattle.std.specs.Int.Bits.{bit_and};
 ghost use Rattle.meaning.specs.Registers as rules;

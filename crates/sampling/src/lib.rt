@@ -1,4 +1,6 @@
 // The column "Values" for the registers of a sample: one test for each rule, under the names that the definitions have.
+#![tactic(auto)]
+
 ghost use Rattle.std.specs.Prelude.{◌≡◌, [], ◌∷◌, ◌&&◌, ◌/◌, ◌%◌, leb};
 ghost use Rattle.laws.specs.Tests.{one_of};
 ghost use Rattle.meaning.specs.Registers as rules;

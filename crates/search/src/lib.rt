@@ -1,4 +1,6 @@
 // The search for the lowest cell of a state that may not be written.
+#![tactic(auto)]
+
 ghost use Rattle.std.specs.Prelude.{◌≡◌, ℕ, ◌+◌, ◌≤◌, T};
 ghost use Rattle.meaning.specs.Words.{words_of};
 ghost use Rattle.meaning.specs.Registers.{cells};

@@ -1,4 +1,6 @@
 // The register state, values and then marks: as it is lent, in bytes, and as the reader's own copy, in words.
+#![tactic(auto)]
+
 ghost use Rattle.std.specs.Prelude.{◌≡◌, ◌-◌, ◌<◌, ◌≤◌, T, length, ◌==◌, nat_le};
 ghost use Rattle.laws.specs.Lists.{over};
 ghost use Rattle.laws.specs.Tests.{implies};

@@ -1,4 +1,6 @@
 // Words of 32 bits in buffers of bytes, the lowest byte first. A word is read where it is used, and no buffer of words is held.
+#![tactic(auto)]
+
 ghost use Rattle.std.specs.Prelude.{◌≡◌, [], ◌∷◌, ◌<◌, ◌/◌, length, get_or};
 ghost use Rattle.meaning.specs.Words.{words_of};
 ghost use Rattle.words.specs.Stores.{put_words};

@@ -1,4 +1,6 @@
 // The size and the writer: how many words the batch has that reaches a state from the empty state, and that batch.
+#![tactic(auto)]
+
 ghost use Rattle.std.specs.Prelude.{◌≡◌, true, ◌/◌, ◌≤◌, ◌<◌, length};
 ghost use Rattle.laws.specs.Lists.{over};
 ghost use Rattle.meaning.specs.Words.{words_of, bytes_of};
@@ -18,7 +20,7 @@ use meaning::{
 // What is told of a state and its grants: the size's answer and, where that is success, the words of the packets before the video packets.
 // The reason lies between the two counts. Side by side they are stored as one vector, and what counts them is then compiled for that
 // store, with 170 instructions more.
-#[derive(Drop)]
+#[derive(Clone, Copy)]
 struct Measured {
     before_video: usize,
     answer: Answer,

@@ -7,8 +7,7 @@ use native.Mathlib.Omega.{arith}
 use borrow.Author.Tests.{eq-eqb, ne_eqb}
 use lib.Dec.{eqb}
 use lib.Bits.{bit_and, and_step}
-use Rattle.rules.proofs.must_be_clear.Statement.{statement}
-use Rattle.rules.proofs.must_be_clear.Tie as tie
+use Rattle.rules.proofs.must_be_clear.Goals as goal
 
 -- one bit of the mask, by one of the value
 one_bit : (v m : ℕ) → v < 2 → m < 2 → min (1 - v) m + min v m ≡ m
@@ -38,8 +37,5 @@ whole_part : (x y m : ℕ) → x + y ≡ m → eqb x m ≡ eqb y 0
 whole_part x zero m e = eq-eqb x m (omega arith)
 whole_part x (suc y) m e = rw (ne_eqb x m (λ same. omega arith), ne_eqb (suc y) 0 (λ none. omega arith))
 
-returns : tie.Need-returns
-returns c = whole_part _ _ c.args.mask (clear-and-set 32 c.args.value c.args.mask (omega arith) (omega arith))
-
-pub must-be-clear-spec : {M : Type 1} → statement M
-must-be-clear-spec = tie.close (tie.spec returns)
+pub returns : goal.returns
+returns c = record { clear = whole_part _ _ c.args.mask (clear-and-set 32 c.args.value c.args.mask (omega arith) (omega arith)) }

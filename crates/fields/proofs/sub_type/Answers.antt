@@ -1,0 +1,9 @@
+-- The bits are taken as the definition takes them.
+-- Assumes nothing.
+use mathlib.Core.Path.{refl}
+use Rattle.meaning.specs.Words as parts
+use Rattle.fields.proofs.sub_type.Goals as goal
+
+pub returns : goal.returns
+unfolding parts.para_sub_type
+returns c = record { sub = refl }
