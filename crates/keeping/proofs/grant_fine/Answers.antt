@@ -8,8 +8,7 @@ use borrow.Author.Tests.{le-leb}
 use borrow.Author.Rules.{rules}
 use Rattle.laws.proofs.Arms.{spans}
 use Rattle.meaning.specs.Grants.{memory_fine, grant_fine}
-use Rattle.keeping.proofs.grant_fine.Statement.{statement}
-use Rattle.keeping.proofs.grant_fine.Tie as tie
+use Rattle.keeping.proofs.grant_fine.Goals as goal
 
 -- all but the memory is fine
 fine-so-far : (role start long reach memory : ℕ) → 1 ≤ role → role ≤ 3 → start + long ≤ 2 ^ 32 → 1 ≤ reach
@@ -19,33 +18,22 @@ unfolding grant_fine
 fine-so-far role start long reach memory low high end some e =
     rw (le-leb 1 role low, le-leb role 3 high, le-leb (start + long) (2 ^ 32) end, le-leb 1 reach some) e
 
-returns : tie.Need-returns
+pub returns-then-role-lt1 : goal.returns-then-role-lt1
 unfolding grant_fine
-returns c = search spans
+returns-then-role-lt1 c = record { fine = search spans }
 
-returns-2 : tie.Need-returns-2
+pub returns-then-role-gt3 : goal.returns-then-role-gt3
 unfolding grant_fine
-returns-2 c = search spans
+returns-then-role-gt3 c = record { fine = search spans }
 
-add-if3 : tie.Need-overflow-add-if3
-add-if3 c = search rules
-
-returns-3 : tie.Need-returns-3
+pub returns-then-start-length-gt4294967296 : goal.returns-then-start-length-gt4294967296
 unfolding grant_fine
-returns-3 c = search spans
+returns-then-start-length-gt4294967296 c = record { fine = search spans }
 
-returns-4 : tie.Need-returns-4
+pub returns-then-reach-lt1 : goal.returns-then-reach-lt1
 unfolding grant_fine
-returns-4 c = search spans
+returns-then-reach-lt1 c = record { fine = search spans }
 
-memory-fine-requires : tie.Need-memory-fine-requires
-memory-fine-requires c κs = search rules
-
-returns-5 : tie.Need-returns-5
+pub returns : goal.returns
 unfolding grant_fine
-returns-5 c =
-    let x = c.before.before.before.before.before.args in
-    fine-so-far x.role x.start x.length x.reach x.memory (omega arith) (omega arith) (omega arith) (omega arith) (c.memory-fine.ensures _ _ _)
-
-pub grant-fine-spec : {M : Type 1} → statement M
-grant-fine-spec = tie.close (tie.spec returns returns-2 add-if3 returns-3 returns-4 memory-fine-requires returns-5)
+returns c = record { fine = fine-so-far c.args.role c.args.start c.args.length c.args.reach c.args.memory (omega arith) (omega arith) (omega arith) (omega arith) (c.memory_fine.ensures.fine _ _ _) }

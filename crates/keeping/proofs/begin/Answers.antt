@@ -1,0 +1,52 @@
+-- The counts make the beginnings of the parts.
+-- Assumes nothing.
+use mathlib.Core.Path.{◌≡◌, refl, sym, ◌∙◌}
+use mathlib.Core.Bool.{true, false}
+use mathlib.Core.List.{List}
+use Prim.Native.Nat.{ℕ, ◌+◌, ◌<◌}
+use native.Mathlib.Omega.{arith}
+use lib.ListN.{get_or, set}
+use borrow.Author.Tests.{not-false}
+use Rattle.laws.proofs.Arms.{told_true, told_false}
+use Rattle.meaning.specs.Words.{words_of}
+use Rattle.meaning.specs.Grants.{Grant, grants_of, grants_fine}
+use Rattle.meaning.proofs.Bytes.{length_words}
+use Rattle.keeping.specs.Keeping.{with_role, no_bounds, beginnings, begun_by}
+use Rattle.numbering.proofs.Grants.{length_grants}
+use Rattle.keeping.proofs.Room.{with_all}
+use Rattle.keeping.proofs.Keeping.{begun_by_lem}
+use borrow.Author.Rules.{rules}
+use Rattle.keeping.proofs.begin.Goals as goal
+
+-- nothing is begun of a list that breaks its rules
+not-begun : (ws : List ℕ) → grants_fine ws ≡ false → no_bounds ≡ begun_by ws
+unfolding begun_by
+not-begun ws told = rw told
+
+-- the four stores make the beginnings
+begun : (gs : List Grant) (bounds : List ℕ) (first second : ℕ) → bounds ≡ no_bounds → first ≡ with_role 1 gs → second ≡ with_role 2 gs
+    → set (set (set (set bounds 2 first) 3 (first + second)) 6 first) 7 (first + second) ≡ beginnings gs
+unfolding beginnings
+begun gs bounds first second none one two = rw (none, one, two)
+
+-- what the answer of `count_roles` tells, where it is true
+fine : (c : goal.Else-not-count_roles) → grants_fine (words_of c.args.grants.now) ≡ true
+fine c = told_true c.count_roles.ensures.fine c.if-not-count_roles.false
+
+counts : (c : tie.Else1) (role : ℕ) → role < 4
+    → get_or c.before.count-roles.new.1.0 role 0 ≡ with_role role (grants_of (words_of c.before.before.before.before.args.grants.now))
+counts c = c.before.count-roles.ensures.1 (not-false c.before.count-roles.result c.if1.false)
+
+pub returns-then-not-count_roles : goal.returns-then-not-count_roles
+returns-then-not-count_roles c = let both = let bad = told_false c.count_roles.ensures.fine c.if-not-count_roles.true in
+    (sym bad, c.requires.none ∙ not-begun (words_of c.args.grants.now) bad) in record { fine = both.0; begun = both.1 }
+
+pub overflow_add-third : goal.overflow_add-third
+overflow_add-third c = omega (arith, counts c 1 (omega arith), counts c 2 (omega arith), with_all (grants_of (words_of c.args.grants.now)), length_grants (words_of c.args.grants.now), length_words c.args.grants.now)
+
+pub returns : goal.returns
+returns c = let both = let good = fine (goal.at.returns c).Else-not-count_roles in (
+  sym good,
+  begun (grants_of (words_of c.args.grants.now)) _ _ _ c.requires.none (counts c 1 (omega arith)) (counts c 2 (omega arith))
+      ∙ sym (begun_by_lem (words_of c.args.grants.now) good),
+) in record { fine = both.0; begun = both.1 }

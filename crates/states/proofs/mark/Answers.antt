@@ -1,0 +1,8 @@
+-- A whole state has a second word for each cell.
+-- Assumes nothing.
+use Rattle.std.proofs.Common.{arith, rules}
+use Rattle.meaning.proofs.Bytes.{length_words}
+use Rattle.states.proofs.mark.Goals as goal
+
+pub word-requires : goal.word-requires
+word-requires c = record { inside = omega (arith, length_words c.args.state.now) }
