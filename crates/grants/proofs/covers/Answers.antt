@@ -3,7 +3,6 @@
 use Rattle.laws.proofs.Arms.{tests}
 use Rattle.grants.specs.Kept.{spans_at, covers_at}
 use native.Mathlib.Omega.{arith}
-use borrow.Author.Rules.{rules}
 use Rattle.grants.proofs.Asking.{in_span}
 use Rattle.grants.proofs.covers.Goals as goal
 

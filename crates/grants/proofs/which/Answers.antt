@@ -1,11 +1,7 @@
 -- The loop goes from grant to grant up to the last, which is asked behind it. What is left to ask from here on decides for all.
 -- Assumes nothing.
-use mathlib.Core.Path.{◌≡◌, refl, ◌∙◌}
-use Prim.Native.Nat.{suc, ◌-◌, ◌≤◌, ◌<◌}
+use mathlib.Core.Path.{refl, ◌∙◌}
 use native.Mathlib.Omega.{arith}
-use borrow.Author.Rules.{rules}
-use Rattle.meaning.specs.Grants.{most_grants}
-use Rattle.grants.specs.Kept.{which_kept}
 use Rattle.grants.proofs.Asking.{none, hit, missed, from_last, past_last, whole}
 use Rattle.grants.proofs.which.Goals as goal
 

@@ -4,7 +4,6 @@ use Prim.Native.Nat.{◌≤◌}
 use native.Mathlib.Omega.{arith}
 use Rattle.laws.proofs.Arms.{spans}
 use Rattle.registers.specs.Names.{name_of, type_of, sub_type_of, address_of}
-use borrow.Author.Rules.{rules}
 use Rattle.registers.proofs.name_of.Goals as goal
 
 pub returns-in-0 : goal.returns-in-0

@@ -2,7 +2,6 @@
 -- Assumes nothing.
 use Rattle.laws.proofs.Arms.{spans}
 use Rattle.registers.specs.Names.{offset_of}
-use borrow.Author.Rules.{rules}
 use Rattle.registers.proofs.offset_of.Goals as goal
 
 pub returns-in-0-to-86 : goal.returns-in-0-to-86

@@ -1,7 +1,6 @@
 -- The digit of each format byte is right for every number.
 -- Assumes nothing.
 use Rattle.rules.proofs.Formats.{rows, digit}
-use borrow.Author.Rules.{rules}
 use Rattle.rules.proofs.bytes_per_pixel.Goals as goal
 
 pub returns : goal.returns

@@ -1,7 +1,6 @@
 -- `rules::format_byte` meets its contract: the test is the definition's, at what the table gives.
 -- Assumes nothing.
 use Rattle.meaning.specs.Registers.{format_byte}
-use borrow.Author.Rules.{rules}
 use Rattle.rules.proofs.format_byte.Goals as goal
 
 pub returns : goal.returns

@@ -3,7 +3,6 @@
 use native.Mathlib.Nat.{div-one}
 use Rattle.meaning.specs.Registers.{levels}
 use Rattle.sampling.proofs.Codes.{row}
-use borrow.Author.Rules.{rules}
 use Rattle.sampling.proofs.levels.Goals as goal
 
 pub returns-then-not-level_code : goal.returns-then-not-level_code

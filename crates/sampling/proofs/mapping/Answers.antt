@@ -3,7 +3,6 @@
 use native.Mathlib.Nat.{div-one}
 use Rattle.meaning.specs.Registers.{mapping}
 use Rattle.sampling.proofs.Codes.{row}
-use borrow.Author.Rules.{rules}
 use Rattle.sampling.proofs.mapping.Goals as goal
 
 pub returns-then-not-volume_code : goal.returns-then-not-volume_code

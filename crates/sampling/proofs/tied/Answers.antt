@@ -1,7 +1,6 @@
 -- `sampling::tied` meets its contract: the four bits tell which codes are 2.
 -- Assumes nothing.
 use mathlib.Core.Path.{◌∙◌}
-use borrow.Author.Rules.{rules}
 use Rattle.sampling.proofs.Ties.{tied_codes}
 use Rattle.sampling.proofs.tied.Goals as goal
 

@@ -1,6 +1,6 @@
 -- One less than the mark is all ones, or 0.
 -- Assumes nothing.
-use Rattle.std.proofs.Common.{arith, rules}
+use Rattle.std.proofs.Common.{arith}
 use Rattle.states.proofs.Formed.{excess_tells}
 use Rattle.states.proofs.excess.Goals as goal
 

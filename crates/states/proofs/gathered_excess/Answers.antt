@@ -1,6 +1,6 @@
 -- The invariant: what is gathered so far is 0 exactly if each unmarked value of the cells passed is.
 -- Assumes nothing.
-use Rattle.std.proofs.Common.{◌≡◌, ℕ, ◌-◌, ◌≤◌, eqb, refl, ap, ◌∙◌, ap₂, arith}
+use Rattle.std.proofs.Common.{◌≡◌, ℕ, eqb, refl, ap, ◌∙◌, ap₂, arith}
 use Rattle.laws.specs.Lists.{every, from}
 use Rattle.laws.specs.Tests.{implies}
 use Rattle.meaning.specs.Words.{words_of}

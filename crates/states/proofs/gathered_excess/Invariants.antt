@@ -1,14 +1,9 @@
 -- The invariant: what is gathered so far is 0 exactly if each unmarked value of the cells passed is.
 -- Assumes nothing.
-use Rattle.std.proofs.Common.{◌≡◌, ℕ, ◌-◌, ◌≤◌, eqb, refl, ap, ◌∙◌, ap₂, arith}
-use Rattle.laws.specs.Lists.{every, from}
-use Rattle.laws.specs.Tests.{implies}
+use Rattle.std.proofs.Common.{◌≡◌, ◌-◌, ◌≤◌, eqb}
 use Rattle.meaning.specs.Words.{words_of}
-use Rattle.meaning.specs.Registers.{cells, cell}
-use Rattle.meaning.specs.State.{value_at, mark_at}
+use Rattle.meaning.specs.Registers.{cells}
 use Rattle.states.specs.Marks.{clear_to}
-use Rattle.laws.proofs.Bits.{or_zero}
-use Rattle.states.proofs.Formed.{one_more, mark_small}
 use Rattle.states.proofs.gathered_excess.Given as goal
 
 abbrev pub invariant-loop-c : goal.invariant-loop-c

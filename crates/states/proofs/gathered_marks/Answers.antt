@@ -1,6 +1,6 @@
 -- The invariant: the marks gathered so far are at most 1 exactly if each of the cells passed has such a mark.
 -- Assumes nothing.
-use Rattle.std.proofs.Common.{◌≡◌, ℕ, ◌-◌, ◌≤◌, leb, refl, ap, ◌∙◌, arith}
+use Rattle.std.proofs.Common.{◌≡◌, ℕ, leb, refl, ap, ◌∙◌, arith}
 use Rattle.laws.specs.Lists.{every, from}
 use Rattle.meaning.specs.Words.{words_of}
 use Rattle.meaning.specs.Registers.{cells, cell}

@@ -1,10 +1,9 @@
 -- The invariant: the words that are left, stored over the state as it is now, leave the words of the bytes.
 -- Assumes nothing.
-use Rattle.std.proofs.Common.{◌-◌, ◌≤◌, arith}
+use Rattle.std.proofs.Common.{arith}
 use Rattle.meaning.specs.Words.{words_of}
-use Rattle.meaning.specs.State.{state_words}
 use Rattle.meaning.proofs.Bytes.{length_words}
-use Rattle.states.proofs.Copied.{Leaves, at_first, one_copied, all_copied}
+use Rattle.states.proofs.Copied.{at_first, one_copied, all_copied}
 use Rattle.states.proofs.load.Goals as goal
 
 pub loop-i-init : goal.loop-i-init

@@ -1,6 +1,6 @@
 -- A whole state has a second word for each cell.
 -- Assumes nothing.
-use Rattle.std.proofs.Common.{arith, rules}
+use Rattle.std.proofs.Common.{arith}
 use Rattle.meaning.proofs.Bytes.{length_words}
 use Rattle.states.proofs.mark.Goals as goal
 

@@ -1,8 +1,8 @@
 -- The invariant: what is counted, with the marked cells that are left, is the number of all; and no more is counted than cells are passed.
 -- Assumes nothing.
-use Rattle.std.proofs.Common.{◌≡◌, ℕ, ◌+◌, ◌-◌, ◌≤◌, ap, arith, rules}
+use Rattle.std.proofs.Common.{ℕ, ◌-◌, ap, arith}
 use Rattle.meaning.specs.Words.{words_of}
-use Rattle.meaning.specs.State.{is_mark, marked, one, count_in}
+use Rattle.meaning.specs.State.{is_mark, marked, one}
 use Rattle.states.proofs.Counted.{count_next, count_none}
 use Rattle.states.proofs.marked_between.Goals as goal
 

@@ -1,9 +1,8 @@
 -- The invariant: what is counted, with the marked cells that are left, is the number of all; and no more is counted than cells are passed.
 -- Assumes nothing.
-use Rattle.std.proofs.Common.{◌≡◌, ℕ, ◌+◌, ◌-◌, ◌≤◌, ap, arith, rules}
+use Rattle.std.proofs.Common.{◌≡◌, ◌+◌, ◌-◌, ◌≤◌}
 use Rattle.meaning.specs.Words.{words_of}
-use Rattle.meaning.specs.State.{is_mark, marked, one, count_in}
-use Rattle.states.proofs.Counted.{count_next, count_none}
+use Rattle.meaning.specs.State.{marked, count_in}
 use Rattle.states.proofs.marked_between.Given as goal
 
 abbrev pub invariant-loop-c : goal.invariant-loop-c

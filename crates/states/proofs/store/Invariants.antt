@@ -1,14 +1,11 @@
 -- The invariant: the words that are left, stored over the bytes as they are now, leave the bytes of all of them over the front.
 -- Assumes nothing.
-use Rattle.std.proofs.Common.{◌≡◌, ◌-◌, ◌≤◌, length, arith}
+use Rattle.std.proofs.Common.{◌≡◌, ◌-◌, ◌≤◌, length}
 use lib.Seq.{slice}
 use Rattle.laws.specs.Lists.{over}
 use Rattle.meaning.specs.Words.{bytes_of}
 use Rattle.meaning.specs.State.{state_words}
-use Rattle.meaning.proofs.Bytes.{length_words}
 use Rattle.words.specs.Stores.{put_words}
-use Rattle.words.proofs.Stores.{word_stored}
-use Rattle.states.proofs.Copied.{before_stores, all_stored}
 use Rattle.states.proofs.store.Given as goal
 
 abbrev pub invariant-loop-i : goal.invariant-loop-i

@@ -21,3 +21,8 @@ returns c = record {
   formed = let small = marks_small (words_of c.args.state.now) c.gathered_marks.result c.gathered_marks.ensures.small (omega arith) in
       values_decide (words_of c.args.state.now) (eqb c.gathered_excess.result 0) (omega (arith, length_words c.args.state.now)) small c.gathered_excess.ensures.clear;
 }
+
+pub gathered_excess-requires : goal.gathered_excess-requires
+gathered_excess-requires c =
+    let small = marks_small (words_of c.args.state.now) c.gathered_marks.result c.gathered_marks.ensures.small (omega arith) in
+    record { whole = omega (arith, length_words c.args.state.now); marks = holds_of small }

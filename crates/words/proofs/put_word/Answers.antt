@@ -5,7 +5,6 @@ use Prim.Native.Nat.{◌/◌, ◌^◌}
 use native.Mathlib.Numerals.{towards_suc}
 use lib.ListN.{length-set}
 use native.Mathlib.Omega.{arith}
-use borrow.Author.Rules.{rules}
 use Rattle.words.specs.Stores.{put_words}
 use Rattle.words.proofs.put_word.Goals as goal
 
