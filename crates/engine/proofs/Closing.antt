@@ -138,11 +138,11 @@ module _ (starts lasts numbers values before marks marked : List ℕ) (part : Pa
     same = judged ∙ rw (first, second, is)
 
     -- 14,
-    pub pair_bad : not k ≡ true → {state : List ℕ} → state ≡ old → (bad_pair ≡ reason_behind r pair_kept_lem) × (state ≡ handed bad_pair new old)
+    pub pair_bad : k ≡ false → {state : List ℕ} → state ≡ old → (bad_pair ≡ reason_behind r pair_kept_lem) × (state ≡ handed bad_pair new old)
     unfolding unless
     pair_bad n e = (rw (← stands, z, told_false same n), e)
 
     -- or none, and the marks of the pair are given back
-    pub pair_good : not k ≡ false → {back : List ℕ} → back ≡ restored t l laid → (success ≡ reason_behind r pair_kept_lem) × (back ≡ handed success new old)
+    pub pair_good : k ≡ true → {back : List ℕ} → back ≡ restored t l laid → (success ≡ reason_behind r pair_kept_lem) × (back ≡ handed success new old)
     unfolding unless
     pair_good n given = (rw (← stands, z, told_true same n), given ∙ rw (first, second, is))

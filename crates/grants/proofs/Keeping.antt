@@ -104,10 +104,10 @@ as_granted g role starts lasts numbers part a {b} given same e =
     ap is_grant e ∙ covered_which starts lasts numbers part.from (part.to - part.from) b ∙ sym (given b) ∙ ap (granted g.grants Either role) same
 
 -- which of the two it is
-pub by_nobody : {w : Which} → w ≡ by.Nobody → not (is_grant w) ≡ true
+pub by_nobody : {w : Which} → w ≡ by.Nobody → is_grant w ≡ false
 by_nobody e = rw e
 
-pub by_grant : {w : Which} {n : ℕ} → w ≡ by.Grant n → not (is_grant w) ≡ false
+pub by_grant : {w : Which} {n : ℕ} → w ≡ by.Grant n → is_grant w ≡ true
 by_grant e = rw e
 
 -- and what names the grants of a list keeps what they grant

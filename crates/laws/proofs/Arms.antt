@@ -6,7 +6,7 @@ use Prim.Native.Nat.{ℕ, suc, ◌<◌, ◌≤◌}
 use native.Mathlib.Nat.{lt_of_lt_of_le, le_trans}
 use native.Mathlib.Omega.{arith}
 use lib.Dec.{eqb, leb, leb-zero}
-use borrow.Author.Tests.{lt-ltb, le-ltb, le-leb, lt-leb, eq-eqb, ne_eqb, eqb-false, leb-true, not-true, not-false}
+use borrow.Author.Tests.{lt-ltb, le-ltb, le-leb, lt-leb, eq-eqb, ne_eqb, eqb-false, leb-true}
 
 -- one number is not two different keys
 pub apart : (a b c : ℕ) → a ≡ b → eqb b c ≡ false → a ≡ c → ⊥
@@ -32,8 +32,8 @@ pub ruleset tests = (lt-ltb, le-ltb, le-leb, lt-leb, eq-eqb, ne_eqb, apart, leb-
 pub ruleset spans = (lt-ltb, le-ltb, le-leb, lt-leb, eq-eqb, ne_eqb, apart, leb-zero, up_to, past, below, above)
 
 -- what a callee's answer, tested as `if !f(..)`, tells of the definition that the callee cites
-pub told_true : {r s : Bool} → r ≡ s → not r ≡ false → s ≡ true
-told_true {r} e t = sym e ∙ not-false r t
+pub told_true : {r s : Bool} → r ≡ s → r ≡ true → s ≡ true
+told_true e t = sym e ∙ t
 
-pub told_false : {r s : Bool} → r ≡ s → not r ≡ true → s ≡ false
-told_false {r} e t = sym e ∙ not-true r t
+pub told_false : {r s : Bool} → r ≡ s → r ≡ false → s ≡ false
+told_false e t = sym e ∙ t

@@ -104,7 +104,7 @@ module _ (st : List ℕ) where
 -- ---- the answers
 
 -- what the code's test of a state tells of its length
-pub whole : (st : List ℕ) {r : Bool} → r ≡ well_formed st → not r ≡ false → length st ≡ state_words
+pub whole : (st : List ℕ) {r : Bool} → r ≡ well_formed st → r ≡ true → length st ≡ state_words
 whole st e t = ((formed_iff st).0 (holds_of (told_true e t))).size
 
 module _ (st out : List ℕ) where

@@ -37,12 +37,12 @@ pub alike : (g : Terms) (v : ℕ) (c : Cell) {row : Register} {x : ℕ} → regi
 alike g v c own e = rw own e
 
 -- a test that fails decides
-pub refused : {b s : Bool} (r more : ℕ) → b ≡ s → not b ≡ true → r ≡ unless s r more
+pub refused : {b s : Bool} (r more : ℕ) → b ≡ s → b ≡ false → r ≡ unless s r more
 unfolding unless
 refused r more e t = rw (told_false e t)
 
 -- past a test that holds, what follows decides
-pub passed : {b s : Bool} (x r more : ℕ) → b ≡ s → not b ≡ false → x ≡ more → x ≡ unless s r more
+pub passed : {b s : Bool} (x r more : ℕ) → b ≡ s → b ≡ true → x ≡ more → x ≡ unless s r more
 unfolding unless
 passed x r more e t next = rw (told_true e t) next
 

@@ -54,11 +54,11 @@ module _ (g : Terms) (st batch : List ℕ) {a : Answer} (h : a ≡ batch_answer 
 
   -- and where there is none, the pair decides
   module _ (z : a.reason ≡ 0) {b : Bool} (kept : b ≡ pair_kept g st (writes_of batch)) where
-    pub bad : not b ≡ true → answer bad_pair a.place ≡ paired_answer g st batch
+    pub bad : b ≡ false → answer bad_pair a.place ≡ paired_answer g st batch
     unfolding paired_answer unless
     bad x = rw (sym h, z, told_false kept x)
 
-    pub good : not b ≡ false → a ≡ paired_answer g st batch
+    pub good : b ≡ true → a ≡ paired_answer g st batch
     unfolding paired_answer unless
     good x = rw (sym h, z, told_true kept x)
 

@@ -134,11 +134,11 @@ module _ (target location : ℕ) (now : List ℕ) (n : length now ≡ state_word
   -- under grants as they are kept
   module _ (starts lasts numbers : List ℕ) (part : Part) where
     module _ {b : Bool} (came : b ≡ (ltb 0 (mark_at now target_cell) || ltb 0 (mark_at now location_cell))) where
-      pub neither : not b ≡ true → true ≡ kept_in starts lasts numbers part target location now
+      pub neither : b ≡ false → true ≡ kept_in starts lasts numbers part target location now
       unfolding kept_in came_back
       neither t = rw (told_false came t)
 
-      pub one : not b ≡ false → {r : Bool} → r ≡ fine_in starts lasts numbers part judged → r ≡ kept_in starts lasts numbers part target location now
+      pub one : b ≡ true → {r : Bool} → r ≡ fine_in starts lasts numbers part judged → r ≡ kept_in starts lasts numbers part target location now
       unfolding kept_in came_back
       one t r = rw (told_true came t) (r ∙ ap (fine_in starts lasts numbers part) (sym same_pair) ∙ ap (λ (x : List ℕ). fine_in starts lasts numbers part (pair_of x)) given)
 

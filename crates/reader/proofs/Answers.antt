@@ -111,12 +111,12 @@ module _ (batch grants bytes : List ℕ) where
             ∙ rw (first, second, its, written)
             (kept_is (words_of grants) (holds_of f) s l n b names st (whole st e) writes (writes_low g (words_of batch) accepted))
 
-        pub pair_refused : not r ≡ true → answer_is (answer bad_pair a.place) × (bytes ≡ leaves (answer bad_pair a.place))
+        pub pair_refused : r ≡ false → answer_is (answer bad_pair a.place) × (bytes ≡ leaves (answer bad_pair a.place))
         unfolding read_answer
         pair_refused x = (rw (e, f) (bad g st (words_of batch) told z pair_kept_lem x), refl)
 
         -- the copy takes the state's place, its marks given back
-        pub batch_accepted : not r ≡ false → {back : List ℕ} → back ≡ restored t o after → {left : List ℕ} → left ≡ over (bytes_of back) bytes
+        pub batch_accepted : r ≡ true → {back : List ℕ} → back ≡ restored t o after → {left : List ℕ} → left ≡ over (bytes_of back) bytes
             → answer_is a × (left ≡ leaves a)
         unfolding read_answer read_leaves
         batch_accepted x {back} given is =

@@ -89,8 +89,8 @@ begun {g} {st} {i} {n} {low} m t told =
 
 -- what the answer for cell c tells, the one of n that has k before it: it may not be written, or the search goes on behind it
 pub record Looked (g : Terms) (st : List ℕ) (i n k c : ℕ) (fine : Bool) : Type 0 where
-  pub bad : not fine ≡ true → c ≡ lowest g st i n
-  pub past : not fine ≡ false → Left g st i n (i + suc k)
+  pub bad : fine ≡ false → c ≡ lowest g st i n
+  pub past : fine ≡ true → Left g st i n (i + suc k)
 
 pub look : {g : Terms} {st : List ℕ} {i n c : ℕ} {fine : Bool} (k : ℕ) → T (ltb k n) → c ≡ i + k → Left g st i n (i + k) → fine ≡ writable g st (cell c) → Looked g st i n k c fine
 look {g} {st} {i} {n} {c} k t e left f =
