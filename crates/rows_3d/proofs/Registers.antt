@@ -1,7 +1,7 @@
 -- The registers at the cells that the functions are for: each row of the table has its own (meaning/proofs/Table).
 -- Assumes nothing.
-use mathlib.Core.Path.{◌≡◌, subst}
-use mathlib.Core.List.{List, map}
+use mathlib.Core.Path.{subst}
+use mathlib.Core.List.{map}
 use Prim.Native.Nat.{ℕ, zero, suc, ◌+◌, ◌*◌, ◌-◌, ◌/◌, ◌≤◌, ◌<◌}
 use native.Mathlib.Omega.{arith}
 use native.Mathlib.Decide.{ℕ_discrete}

@@ -1,7 +1,7 @@
 -- The registers at the cells that the functions are for: each row of the table has its own (meaning/proofs/Table).
 -- Assumes nothing.
 use mathlib.Core.Path.{◌≡◌}
-use Prim.Native.Nat.{ℕ, ◌+◌, ◌≤◌, ◌<◌}
+use Prim.Native.Nat.{ℕ, ◌≤◌, ◌<◌}
 use native.Mathlib.Omega.{arith}
 use Rattle.laws.specs.Lists.{All}
 use Rattle.laws.proofs.Lists.{all_split, one_of_two}

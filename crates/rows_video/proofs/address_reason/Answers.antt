@@ -3,7 +3,6 @@
 use Rattle.meaning.specs.Registers.{scaler}
 use Rattle.rows_video.proofs.Registers.{own_scaler}
 use Rattle.meaning.proofs.Columns.{alike}
-use borrow.Author.Rules.{rules}
 use Rattle.rows_video.proofs.address_reason.Goals as goal
 
 pub returns : goal.returns

@@ -1,6 +1,5 @@
 -- `rows_video::masked_reason` meets its contract: the test is the definition's.
 -- Assumes nothing.
-use borrow.Author.Rules.{rules}
 use Rattle.meaning.proofs.Columns.{order}
 use Rattle.rows_video.proofs.masked_reason.Goals as goal
 
