@@ -1,2 +1,4 @@
 pub mod Room
+pub mod Counting
+pub mod Placing
 pub mod Keeping

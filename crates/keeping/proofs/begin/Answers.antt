@@ -6,8 +6,6 @@ use mathlib.Core.List.{List}
 use Prim.Native.Nat.{ℕ, ◌+◌, ◌<◌}
 use native.Mathlib.Omega.{arith}
 use lib.ListN.{get_or, set}
-use borrow.Author.Tests.{not-false}
-use Rattle.laws.proofs.Arms.{told_true, told_false}
 use Rattle.meaning.specs.Words.{words_of}
 use Rattle.meaning.specs.Grants.{Grant, grants_of, grants_fine}
 use Rattle.meaning.proofs.Bytes.{length_words}
@@ -15,8 +13,8 @@ use Rattle.keeping.specs.Keeping.{with_role, no_bounds, beginnings, begun_by}
 use Rattle.numbering.proofs.Grants.{length_grants}
 use Rattle.keeping.proofs.Room.{with_all}
 use Rattle.keeping.proofs.Keeping.{begun_by_lem}
-use borrow.Author.Rules.{rules}
 use Rattle.keeping.proofs.begin.Goals as goal
+use Rattle.keeping.proofs.begin.Goals.{Else-not-count_roles}
 
 -- nothing is begun of a list that breaks its rules
 not-begun : (ws : List ℕ) → grants_fine ws ≡ false → no_bounds ≡ begun_by ws
@@ -30,23 +28,28 @@ unfolding beginnings
 begun gs bounds first second none one two = rw (none, one, two)
 
 -- what the answer of `count_roles` tells, where it is true
-fine : (c : goal.Else-not-count_roles) → grants_fine (words_of c.args.grants.now) ≡ true
-fine c = told_true c.count_roles.ensures.fine c.if-not-count_roles.false
+fine : (c : Else-not-count_roles) → grants_fine (words_of c.args.grants.now) ≡ true
+fine c = sym c.if-not-count_roles.ensures.fine
 
-counts : (c : tie.Else1) (role : ℕ) → role < 4
-    → get_or c.before.count-roles.new.1.0 role 0 ≡ with_role role (grants_of (words_of c.before.before.before.before.args.grants.now))
-counts c = c.before.count-roles.ensures.1 (not-false c.before.count-roles.result c.if1.false)
+counts : (c : Else-not-count_roles) (role : ℕ) → role < 4 → get_or c.count_roles.new.counts role 0 ≡ with_role role (grants_of (words_of c.args.grants.now))
+counts c = c.if-not-count_roles.ensures.counts refl
 
-pub returns-then-not-count_roles : goal.returns-then-not-count_roles
-returns-then-not-count_roles c = let both = let bad = told_false c.count_roles.ensures.fine c.if-not-count_roles.true in
-    (sym bad, c.requires.none ∙ not-begun (words_of c.args.grants.now) bad) in record { fine = both.0; begun = both.1 }
+pub returns-then-not-count_roles-clause-begun : goal.returns-then-not-count_roles-clause-begun
+returns-then-not-count_roles-clause-begun c = c.requires.none ∙ not-begun (words_of c.args.grants.now) (sym c.if-not-count_roles.ensures.fine)
 
 pub overflow_add-third : goal.overflow_add-third
-overflow_add-third c = omega (arith, counts c 1 (omega arith), counts c 2 (omega arith), with_all (grants_of (words_of c.args.grants.now)), length_grants (words_of c.args.grants.now), length_words c.args.grants.now)
+overflow_add-third c =
+    omega (
+      arith,
+      counts c 1 (omega arith),
+      counts c 2 (omega arith),
+      with_all (grants_of (words_of c.args.grants.now)),
+      length_grants (words_of c.args.grants.now),
+      length_words c.args.grants.now,
+    )
 
-pub returns : goal.returns
-returns c = let both = let good = fine (goal.at.returns c).Else-not-count_roles in (
-  sym good,
-  begun (grants_of (words_of c.args.grants.now)) _ _ _ c.requires.none (counts c 1 (omega arith)) (counts c 2 (omega arith))
-      ∙ sym (begun_by_lem (words_of c.args.grants.now) good),
-) in record { fine = both.0; begun = both.1 }
+pub returns-clause-begun : goal.returns-clause-begun
+returns-clause-begun c =
+    let k = (goal.at.returns-clause-begun c).Else-not-count_roles in
+    begun (grants_of (words_of c.args.grants.now)) _ _ _ c.requires.none (counts k 1 (omega arith)) (counts k 2 (omega arith))
+    ∙ sym (begun_by_lem (words_of c.args.grants.now) (fine k))

@@ -5,7 +5,6 @@ use mathlib.Core.Bool.{Bool}
 use Prim.Native.Nat.{ℕ, ◌+◌, ◌^◌, ◌≤◌}
 use native.Mathlib.Omega.{arith}
 use borrow.Author.Tests.{le-leb}
-use borrow.Author.Rules.{rules}
 use Rattle.laws.proofs.Arms.{spans}
 use Rattle.meaning.specs.Grants.{memory_fine, grant_fine}
 use Rattle.keeping.proofs.grant_fine.Goals as goal
