@@ -2,7 +2,7 @@
 -- Assumes nothing.
 use mathlib.Core.Path.{◌≡◌, refl, sym, ap, ◌∙◌}
 use mathlib.Core.Logic.{◌≢◌}
-use mathlib.Core.Bool.{Bool, true, false, not, ◌&&◌, ◌||◌, cond}
+use mathlib.Core.Bool.{Bool, true, false, not, ◌&&◌, ◌||◌}
 use mathlib.Core.List.{List}
 use Prim.Native.Nat.{ℕ, ◌*◌, ◌≤◌, ◌<◌, ◌^◌}
 use native.Mathlib.Omega.{arith}
@@ -15,11 +15,10 @@ use mir.Facts.{and_yes, ltb_yes, eqb_yes}
 use Rattle.laws.specs.Tests.{implies}
 use Rattle.laws.proofs.Arms.{told_true, told_false}
 use Rattle.laws.proofs.Tests.{true_of, holds_of}
-use Rattle.meaning.specs.declared.Memory.{Memory}
 use Rattle.meaning.specs.declared.Memory.TheVariants.{Only}
 use Rattle.meaning.specs.declared.Which.{Which}
 use Rattle.meaning.specs.declared.Which.TheVariants as by
-use Rattle.meaning.specs.Grants.{grants_of, grants_fine, terms_of, granted, is_grant, which}
+use Rattle.meaning.specs.Grants.{grants_of, grants_fine, terms_of, is_grant, which}
 use Rattle.meaning.specs.State.{state_words, value_at, mark_at}
 use Rattle.meaning.specs.Pair.{target_cell, location_cell, memory_named, memory_of, target_of, pair_fine}
 use Rattle.numbering.proofs.Grants.{fine_list}

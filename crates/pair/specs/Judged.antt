@@ -1,6 +1,6 @@
 -- What the code judges a pair by: two values, two marks, and grants as they are kept.
 -- Assumes nothing.
-use Rattle.std.specs.Prelude.{◌≡◌, Bool, true, cond, List, ℕ, ◌*◌, ◌<◌, ◌^◌, T, ltb}
+use Rattle.std.specs.Prelude.{Bool, cond, List, ℕ, ◌*◌, ◌<◌, ◌^◌, T, ltb}
 use Rattle.laws.specs.Tests.{implies}
 use Rattle.meaning.specs.declared.Memory.TheVariants.{Only}
 use Rattle.meaning.specs.declared.Which.{Which}

@@ -1,8 +1,8 @@
 -- Which cells other than cell 1 hold an address: six of them, and no other number.
 -- Assumes nothing.
-use mathlib.Core.Path.{◌≡◌, refl, sym, ap, ◌∙◌}
+use mathlib.Core.Path.{◌≡◌, refl, ap}
 use mathlib.Core.Logic.{◌≢◌}
-use mathlib.Core.List.{List, [], ◌∷◌, ◌++◌, map}
+use mathlib.Core.List.{List, [], ◌∷◌, map}
 use Prim.Native.Nat.{ℕ, zero, suc, ◌+◌, ◌≤◌, ◌<◌}
 use native.Mathlib.Omega.{arith}
 use native.Mathlib.Decide.{ℕ_discrete}
@@ -10,8 +10,8 @@ use borrow.Author.Tests.{eq-eqb, ne_eqb}
 use Rattle.laws.specs.Lists.{All, from}
 use Rattle.laws.proofs.Lists.{all_append, one_of_two}
 use Rattle.meaning.specs.declared.Cell.{Cell}
-use Rattle.meaning.specs.Registers.{cell, Content, nothing, Register, Row, Section, of_3d, of_video, target_group, stage, sample, stage_section, sample_section, overlay, scaler, sections_3d, sections_video, sections, register_among, register_in, register_at}
-use Rattle.rows_video.specs.Scalers.{Scaler, first, second}
+use Rattle.meaning.specs.Registers.{cell, nothing, Register, Row, Section, of_3d, of_video, target_group, stage, sample, stage_section, sample_section, overlay, scaler, sections_3d, sections_video, sections, register_among, register_in, register_at}
+use Rattle.rows_video.specs.Scalers.{Scaler}
 use Rattle.rows_video.proofs.Registers.{own_scaler}
 use Rattle.query.specs.Held.{held_as}
 
