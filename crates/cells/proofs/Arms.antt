@@ -1,65 +1,58 @@
--- What the arms of a `match` on a row know: the row itself, or in the last arm that its number is one of those that are left.
+-- What the arms of a `match` on a row know: the row itself, or in the last arm that it is none of those before.
 -- Assumes nothing.
 use mathlib.Core.Path.{◌≡◌, refl}
-use mathlib.Core.Bool.{Bool, true}
-use mathlib.Core.List.{List, [], ◌∷◌}
-use mathlib.Core.Logic.{inl, inr}
+use mathlib.Core.Bool.{true}
 use Prim.Native.Nat.{ℕ, ◌<◌, ◌^◌}
 use native.Mathlib.Omega.{arith}
 use native.Mathlib.Decide.{dec_lt}
 use borrow.Author.Tests.{lt-ltb, le-ltb, le-leb, lt-leb}
-use denote.Enum.Declared.{tag_of}
 use lib.Dec.{T, leb, ltb, eqb}
-use lib.ListN.{get_or}
-use mir.Facts.{and_yes, eqb_yes}
-use types.Run.{OneOf}
-use Rattle.laws.specs.Lists.{every}
+use mir.Facts.{eqb_yes}
 use Rattle.cells.specs.declared.Row.{Row}
 use Rattle.cells.specs.declared.Row.TheVariants as rows
-use Rattle.cells.specs.Rows.{width_of}
-use Rattle.cells.specs.contracts.Row.{the_type}
+use Rattle.cells.specs.Rows.{width_of, takes_zero}
 
 -- ---- the last arm
 
--- a test that passes at each key passes at a number that is one of them
-by_key : (test : ℕ → Bool) (ks : List ℕ) → T (every test ks) → (x : ℕ) → OneOf ks x → T (test x)
-unfolding every
-by_key test [] t x o = absurd o
-by_key test (k ∷ []) t x e = rw e (and_yes (test k) _ t).0
-by_key test (k ∷ (l ∷ ks)) t x (inl e) = rw e (and_yes (test k) _ t).0
-by_key test (k ∷ (l ∷ ks)) t x (inr o) = by_key test (l ∷ ks) (and_yes (test k) _ t).1 x o
+-- every other row has the bits of a word
+pub wide_rest : (row : Row) → (row ≡ rows.AlphaConstants → ⊥) → (row ≡ rows.TargetAddress → ⊥) → (row ≡ rows.Location → ⊥) → (row ≡ rows.Format → ⊥) → (row ≡ rows.Stage → ⊥) → (row ≡ rows.Levels → ⊥) → (row ≡ rows.Filters → ⊥) → (row ≡ rows.Mapping → ⊥) → T (eqb (width_of row) 32)
+unfolding width_of
+wide_rest rows.AlphaConstants n _ _ _ _ _ _ _ = absurd (n refl)
+wide_rest rows.TargetAddress _ n _ _ _ _ _ _ = absurd (n refl)
+wide_rest rows.Location _ _ n _ _ _ _ _ = absurd (n refl)
+wide_rest rows.Format _ _ _ n _ _ _ _ = absurd (n refl)
+wide_rest rows.Stage _ _ _ _ n _ _ _ = absurd (n refl)
+wide_rest rows.Levels _ _ _ _ _ n _ _ = absurd (n refl)
+wide_rest rows.Filters _ _ _ _ _ _ n _ = absurd (n refl)
+wide_rest rows.Mapping _ _ _ _ _ _ _ n = absurd (n refl)
+wide_rest rows.Overlay _ _ _ _ _ _ _ _ = tt
+wide_rest rows.AlphaSelect _ _ _ _ _ _ _ _ = tt
+wide_rest rows.Deinterlace _ _ _ _ _ _ _ _ = tt
+wide_rest rows.SubPicture _ _ _ _ _ _ _ _ = tt
+wide_rest rows.FirstAddress _ _ _ _ _ _ _ _ = tt
+wide_rest rows.Address _ _ _ _ _ _ _ _ = tt
+wide_rest rows.DestinationStride _ _ _ _ _ _ _ _ = tt
+wide_rest rows.SourceStride _ _ _ _ _ _ _ _ = tt
 
--- the rows by their numbers
-abbrev row_at : ℕ → Row
-row_at n = get_or (
-    rows.AlphaConstants ∷ rows.TargetAddress ∷ rows.Location ∷ rows.Format
-    ∷ rows.Stage ∷ rows.Levels ∷ rows.Filters ∷ rows.Mapping
-    ∷ rows.Overlay ∷ rows.AlphaSelect ∷ rows.Deinterlace ∷ rows.SubPicture
-    ∷ rows.FirstAddress ∷ rows.Address ∷ rows.DestinationStride ∷ rows.SourceStride
-    ∷ []
-    ) n rows.AlphaConstants
-
-numbered : (row : Row) → row_at (tag_of the_type row) ≡ row
-numbered rows.AlphaConstants = refl
-numbered rows.TargetAddress = refl
-numbered rows.Location = refl
-numbered rows.Format = refl
-numbered rows.Stage = refl
-numbered rows.Levels = refl
-numbered rows.Filters = refl
-numbered rows.Mapping = refl
-numbered rows.Overlay = refl
-numbered rows.AlphaSelect = refl
-numbered rows.Deinterlace = refl
-numbered rows.SubPicture = refl
-numbered rows.FirstAddress = refl
-numbered rows.Address = refl
-numbered rows.DestinationStride = refl
-numbered rows.SourceStride = refl
-
--- a test that passes at the row of each key passes at the row
-pub of_rest : (test : Row → Bool) (ks : List ℕ) → T (every (λ n. test (row_at n)) ks) → (row : Row) → OneOf ks (tag_of the_type row) → T (test row)
-of_rest test ks t row o = rw (numbered row) at (by_key (λ n. test (row_at n)) ks t (tag_of the_type row) o)
+-- and every other than these takes 0
+pub zero_rest : (row : Row) → (row ≡ rows.TargetAddress → ⊥) → (row ≡ rows.Format → ⊥) → (row ≡ rows.FirstAddress → ⊥) → (row ≡ rows.Address → ⊥) → T (takes_zero row)
+unfolding takes_zero
+zero_rest rows.AlphaConstants _ _ _ _ = tt
+zero_rest rows.TargetAddress n _ _ _ = absurd (n refl)
+zero_rest rows.Location _ _ _ _ = tt
+zero_rest rows.Format _ n _ _ = absurd (n refl)
+zero_rest rows.Stage _ _ _ _ = tt
+zero_rest rows.Levels _ _ _ _ = tt
+zero_rest rows.Filters _ _ _ _ = tt
+zero_rest rows.Mapping _ _ _ _ = tt
+zero_rest rows.Overlay _ _ _ _ = tt
+zero_rest rows.AlphaSelect _ _ _ _ = tt
+zero_rest rows.Deinterlace _ _ _ _ = tt
+zero_rest rows.SubPicture _ _ _ _ = tt
+zero_rest rows.FirstAddress _ _ n _ = absurd (n refl)
+zero_rest rows.Address _ _ _ n = absurd (n refl)
+zero_rest rows.DestinationStride _ _ _ _ = tt
+zero_rest rows.SourceStride _ _ _ _ = tt
 
 -- ---- widths
 
