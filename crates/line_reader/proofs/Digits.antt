@@ -2,18 +2,18 @@
 -- Assumes nothing.
 use mathlib.Core.Path.{◌≡◌, refl, sym, ap, ◌∙◌}
 use mathlib.Core.Bool.{Bool, true, false, cond, ◌||◌}
-use mathlib.Core.List.{List, [], ◌∷◌, ◌++◌, map}
+use mathlib.Core.List.{[], ◌∷◌, ◌++◌}
 use Prim.Native.Nat.{ℕ, zero, suc, ◌+◌, ◌*◌, ◌-◌, ◌/◌, ◌%◌, ◌≤◌, ◌<◌, ◌^◌}
 use native.Mathlib.Omega.{arith}
 use native.Mathlib.Nat.{pow-suc, mul_comm, div-div-eq-div-mul}
 use borrow.Author.Tests.{le-leb, lt-leb}
 use lib.Dec.{T, leb, eqb}
-use lib.ListN.{length, get_or}
+use lib.ListN.{get_or}
 use mir.Facts.{eqb_yes}
 use Rattle.laws.specs.Lists.{every, from}
 use Rattle.laws.specs.Tests.{within}
 use Rattle.laws.proofs.Lists.{every_from}
-use Rattle.laws.proofs.Tests.{within_iff, holds_of, fails_of}
+use Rattle.laws.proofs.Tests.{within_iff, holds_of}
 use Rattle.meaning.specs.Lister.{digit, hex}
 use Rattle.meaning.specs.ListingReader.{is_hex, digit_worth}
 use Rattle.listings.proofs.Digits.{digit_worth_lem, worth_digit}

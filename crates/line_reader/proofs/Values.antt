@@ -9,12 +9,12 @@ use native.Mathlib.Omega.{arith}
 use native.Mathlib.Nat.{pow-suc, pow-le-pow_right}
 use lib.ListN.{length, take, drop, get_or, take-append-drop, length-drop}
 use lib.Seq.{take-suc, take-add, drop-cons, drop-drop, get_or-take, get_or-drop}
-use Rattle.meaning.specs.Words.{Word, bytes_of}
+use Rattle.meaning.specs.Words.{Word}
 use Rattle.meaning.specs.Text.{ascii}
 use Rattle.meaning.specs.Lister.{digit, hex}
 use Rattle.meaning.specs.ListingReader.{worth}
 use Rattle.lines.specs.Lines.{value_text}
-use Rattle.listings.proofs.Digits.{worth_hex, hex_length}
+use Rattle.listings.proofs.Digits.{worth_hex}
 use Rattle.line_reader.specs.Named.{digit_or_16}
 use Rattle.line_reader.specs.Read.{Four, DigitsAt, ValueAt}
 use Rattle.line_reader.proofs.Fours.{bytes_once}

@@ -1,6 +1,6 @@
 -- What is read at the front of a text: that it stands there, and that nothing else of its kind does.
 -- Assumes nothing.
-use Rattle.std.specs.Prelude.{◌≡◌, Bool, true, List, [], ◌∷◌, ℕ, ◌≤◌, ◌<◌, ◌^◌, length, take, drop}
+use Rattle.std.specs.Prelude.{◌≡◌, Bool, true, List, [], ◌∷◌, ℕ, ◌≤◌, ◌<◌, length, take, drop}
 use Rattle.meaning.specs.Words.{Word, bytes_of}
 use Rattle.meaning.specs.Registers.{cells}
 use Rattle.meaning.specs.Lister.{hex}

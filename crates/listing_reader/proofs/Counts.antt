@@ -1,20 +1,19 @@
 -- The count, byte by byte: to read on from here is to read the count.
 -- Assumes nothing.
-use mathlib.Core.Path.{◌≡◌, refl, sym, ap, ◌∙◌}
+use mathlib.Core.Path.{◌≡◌, refl, sym, ◌∙◌}
 use mathlib.Core.Bool.{Bool, true, false, cond, ◌&&◌}
 use mathlib.Core.List.{List, [], ◌∷◌}
 use mathlib.Core.Logic.{◌≢◌}
-use Prim.Native.Nat.{ℕ, zero, suc, ◌+◌, ◌*◌, ◌-◌, ◌≤◌, ◌<◌}
+use Prim.Native.Nat.{ℕ, suc, ◌+◌, ◌*◌, ◌-◌, ◌≤◌, ◌<◌}
 use native.Mathlib.Omega.{arith}
 use native.Mathlib.Nat.{add_assoc}
 use borrow.Author.Tests.{eq-eqb, ne_eqb, le-leb, lt-leb, lt-ltb, le-ltb}
-use lib.Dec.{T, eqb, leb, ltb}
+use lib.Dec.{leb, ltb}
 use lib.ListN.{length, drop, get_or, drop_of_length-le}
 use lib.Seq.{drop-cons}
 use Rattle.laws.specs.Tests.{within}
 use Rattle.laws.proofs.Tests.{within_iff, holds_of}
 use Rattle.meaning.specs.Registers.{cells}
-use Rattle.meaning.specs.Answers.{answer}
 use Rattle.meaning.specs.ListingReader.{table_lines, Outcome, refused, further, read_lines, read_count, read_first}
 use Rattle.listing_reader.specs.Counted.{decimal_or_10, CountRun}
 

@@ -1,11 +1,10 @@
 -- The loop over the lines: to read on from here is to read all lines.
 -- Assumes nothing.
-use mathlib.Core.Path.{◌≡◌, refl, sym, ap, ap₂, ◌∙◌}
-use mathlib.Core.List.{List, [], ◌∷◌, ◌++◌}
+use mathlib.Core.Path.{◌≡◌, refl, ap, ◌∙◌}
+use mathlib.Core.List.{List, [], ◌∷◌}
 use mathlib.Core.Logic.{◌≢◌}
 use Prim.Native.Nat.{ℕ, zero, suc, ◌+◌, ◌-◌, ◌≤◌, ◌<◌}
 use native.Mathlib.Omega.{arith}
-use native.Mathlib.Nat.{add_assoc}
 use lib.ListN.{length, drop, get_or, set, drop_of_length-le, length-drop, length-set}
 use lib.Seq.{drop-drop, drop-cons}
 use Rattle.meaning.specs.declared.Answer.{Answer}
@@ -13,7 +12,7 @@ use Rattle.meaning.specs.Registers.{cells, first_video, cell}
 use Rattle.meaning.specs.State.{state_words, apply, apply_all}
 use Rattle.meaning.specs.Answers.{success, not_listing, answer}
 use Rattle.meaning.specs.Lister.{hex}
-use Rattle.meaning.specs.ListingReader.{along, form_of, table_lines, Outcome, refused, further, with, read_lines}
+use Rattle.meaning.specs.ListingReader.{form_of, table_lines, Outcome, refused, further, with, read_lines}
 use Rattle.listings.specs.Lines.{name_3d, name_video, line_for, lines_from, furthest_of}
 use Rattle.listings.proofs.Forms.{along_within}
 use Rattle.listings.proofs.Numbers.{by_number, line_3D_lem, line_video_lem}

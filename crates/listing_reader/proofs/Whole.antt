@@ -1,22 +1,19 @@
 -- The whole text: its key, its count, its lines; and what the call answers and leaves.
 -- Assumes nothing.
-use mathlib.Core.Path.{◌≡◌, refl, sym, ap, ap₂, ◌∙◌}
+use mathlib.Core.Path.{◌≡◌, sym, ap, ◌∙◌}
 use mathlib.Core.Bool.{Bool, true, false}
-use mathlib.Core.List.{List, [], ◌∷◌, map}
+use mathlib.Core.List.{List}
 use mathlib.Core.Logic.{◌≢◌}
-use Prim.Native.Nat.{ℕ, suc, ◌+◌, ◌/◌, ◌≤◌, ◌<◌}
+use Prim.Native.Nat.{ℕ, ◌/◌, ◌≤◌, ◌<◌}
 use native.Mathlib.Omega.{arith}
-use native.Mathlib.Nat.{zero-add}
 use borrow.Author.Tests.{eq-eqb, ne_eqb}
-use lib.ListN.{length, drop, get_or, length-replicate}
-use lib.Seq.{drop-cons}
+use lib.ListN.{length, drop, length-replicate}
 use Rattle.laws.specs.Lists.{over}
 use Rattle.meaning.specs.declared.Answer.{Answer}
 use Rattle.meaning.specs.Words.{words_of, bytes_of}
 use Rattle.meaning.specs.State.{state_words, empty, Write, apply_all}
 use Rattle.meaning.specs.Answers.{bad_state, not_listing, answer, settle}
-use Rattle.meaning.specs.Text.{ascii}
-use Rattle.meaning.specs.ListingReader.{fixed, along, head_form, table_lines, Outcome, refused, further, read_lines, read_first, read_text, listing_answer, listing_leaves}
+use Rattle.meaning.specs.ListingReader.{along, head_form, table_lines, Outcome, refused, further, read_lines, read_first, read_text, listing_answer, listing_leaves}
 use Rattle.meaning.proofs.Bytes.{length_words, settle_done, settle_refused}
 use Rattle.meaning.proofs.States.{length_applied}
 use Rattle.listings.proofs.Forms.{along_within}

@@ -13,7 +13,6 @@ use Rattle.laws.specs.Tests.{within}
 use Rattle.laws.proofs.Tests.{within_iff, fails_of, holds_of}
 use Rattle.meaning.specs.Registers.{cells}
 use Rattle.meaning.specs.State.{Write}
-use Rattle.meaning.specs.Answers.{answer}
 use Rattle.meaning.specs.ListingReader.{along, head_form, table_lines, Outcome, refused, further, at_least, read_lines, read_count, read_first, read_text}
 use Rattle.listings.proofs.Forms.{some_text}
 use Rattle.listings.proofs.Tells.{Texts, Starts, Some, Tells, tells_none, starts_there, Either, this, tells_whole, tells_left}
