@@ -34,7 +34,7 @@ run_program() { # NAME
     fresh_program "$1" || exit $FAILED
     prepare_to_run || fail 'an emulator of x86-64 could not be installed'
     {
-        $run "$root/target/bin/$1"
+        $run "$root/crates/$1/out/$1"
         echo $? >"$work/status"
     } | cat >"$answer" || fail "what $1 printed could not be kept"
     [ "$(cat "$work/status")" = 0 ] || fail "$1 ended with status $(cat "$work/status")"

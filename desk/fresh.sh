@@ -1,21 +1,21 @@
 # Sourced, with `root` the top of the repository: a program or an archive that is what rt builds of the sources as they are.
 #
-#   fresh_program NAME    target/bin/NAME
-#   fresh_archive NAME    target/staticlib/libNAME.a
+#   fresh_program NAME    crates/NAME/out/NAME
+#   fresh_archive NAME    out/libNAME.a, of the static library NAME_c
 #
 # Status 0: the file is there and fresh. Else it was said on standard error why not.
 #
-# A stamp in target/built tells by which rt, of which sources and with which bytes a file was built. Where it does not hold, rt is
-# asked. rt alone would not do: it builds an archive anew each time, needs a second to find that nothing has changed for a program,
-# and does not look whether the program is there.
+# A stamp in out/built tells by which rt, of which sources and with which bytes a file was built. Where it does not hold, rt is
+# asked. rt alone would not do: it builds an archive anew each time, and for a program it needs a second to find that nothing has
+# changed, and then runs it.
 
-fresh_program() { fresh "$root/target/bin/$1" "$1" build_program; }
-fresh_archive() { fresh "$root/target/staticlib/lib$1.a" "$1" build_archive; }
+fresh_program() { fresh "$root/crates/$1/out/$1" "$1" build_program; }
+fresh_archive() { fresh "$root/out/lib$1.a" "$1_c" build_archive; }
 
 # In a subshell, so that its variables, its traps and the lock end with it. What rt leaves running when it is interrupted has the lock
 # too, and so is waited for.
 fresh() ( # FILE CRATE BUILD
-    file=$1 crate=$2 build=$3 built=$root/target/built
+    file=$1 crate=$2 build=$3 built=$root/out/built
     stamp=$built/${file##*/} log=$built/${file##*/}.log
     command -v rt >/dev/null || refuse "rt is not there: $crate can be neither built nor told to be fresh"
     ! is_fresh || exit 0
@@ -38,9 +38,13 @@ refuse() {
 
 sum() { sha256sum | cut -d ' ' -f 1; }
 
-# rt, the machine, and the name and content of every file of every crate; not their times, which a checkout sets as it likes.
+# rt, the machine, and the name and content of every file of every crate, but for what rt made; not their times, which a checkout sets
+# as it likes.
 sources_sum() {
-    { rt version && uname -m && cd "$root" && find crates crates.txt -type f -exec sha256sum {} + | LC_ALL=C sort; } | sum
+    {
+        rt version && uname -m && cd "$root" &&
+            find crates crates.txt -path 'crates/*/out' -prune -o -type f -exec sha256sum {} + | LC_ALL=C sort
+    } | sum
 }
 
 # Leaves the sum in `sources`: what is built next is stamped with it.
@@ -51,23 +55,19 @@ is_fresh() {
 
 # A build that fails or is interrupted leaves no stamp.
 build_and_stamp() {
-    stamped_bytes=$(cut -d ' ' -f 2 "$stamp" 2>/dev/null)
     rm -f "$stamp"
     build_in_view || return
     [ -f "$file" ] || refuse "rt is content, but ${file#"$root"/} is not there"
-    echo "$sources $(sum <"$file")" >"$stamp.new" && mv "$stamp.new" "$stamp"
+    put_stamp
 }
 
-# ---- rt
+put_stamp() { echo "$sources $(sum <"$file")" >"$stamp.new" && mv "$stamp.new" "$stamp"; }
 
-# rt takes a program that it has proved to be where it left it: one that is gone, or is not the one that was stamped, it has to forget.
-build_program() {
-    [ -f "$file" ] && [ "$(sum <"$file")" = "${stamped_bytes:-$(sum <"$file")}" ] || rm -f "$root/target/stamp/$crate"
-    rt check "$crate"
-}
+# ---- rt, in the crate's folder
 
-# What the archive stands on first: `rt check` proves on all cores, `rt staticlib` on one.
-build_archive() { rt check $(crates_below) && rt staticlib "$crate"; }
+# It builds a program only where it runs it: here on no input. How that ends does not matter.
+build_program() { rt run || grep -q '^rt: running ' "$log"; }
+build_archive() { rt lib && cp "out/lib$crate.a" "$file"; }
 
 # The crates of the repository that the crate stands on.
 crates_below() {
@@ -82,7 +82,10 @@ crates_below() {
                 }
         }
         { sub(/#.*/, "") }
-        split($0, line, ":") == 2 { stands_on[line[1]] = line[2] }
+        split($0, line, ":") == 2 {
+            sub(/ .*/, "", line[1])
+            stands_on[line[1]] = line[2]
+        }
         END { visit(crate) }' "$root/crates.txt"
 }
 
@@ -99,7 +102,7 @@ build_in_view() {
     else
         tell "proving and building $crate, which may take some minutes"
     fi
-    (cd "$root" && "$build") >"$log" 2>&1 </dev/null
+    (cd "$root/crates/$crate" && "$build") >"$log" 2>&1 </dev/null
     status=$?
     stop_progress
     [ "$status" = 0 ] || show_failure
@@ -116,10 +119,14 @@ show_progress() {
     done
 }
 
-# The last crate and how many: each once, though two commands of rt may have named it.
+# The last crate that rt had to look at, and how many so far: each once.
 proved_so_far() {
     awk '
-        /^rt: [^ ]+ proved \(/ { if (!named[$2]++) count++; last = $2 " proved, " }
+        /^crate [^ ]+: modules / {
+            sub(/:$/, "", $2)
+            if (!named[$2]++) count++
+            last = $2 " proved, "
+        }
         END { print last count + 0 }' "$log" 2>/dev/null
 }
 

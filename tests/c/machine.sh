@@ -10,8 +10,8 @@ root=$PWD
 . desk/machine.sh
 . desk/fresh.sh
 
-scratch=target/c
-archive=${IRANGELDA_ARCHIVE:-target/staticlib/libirangelda.a}
+scratch=out/c
+archive=${IRANGELDA_ARCHIVE:-out/libirangelda.a}
 
 if native && [ "${EMULATE:-0}" != 1 ]; then
     cc=cc

@@ -2,40 +2,63 @@
 # that it was built of.
 
 made=$work/made stand=$work/stand
-mkdir -p "$made/crates/leaf/src" "$made/crates/list_batch/src" "$stand"
+for crate in leaf irangelda irangelda_c list_batch restore_listing name_grants; do
+    mkdir -p "$made/crates/$crate/src"
+done
+mkdir -p "$made/.ci" "$stand/kit/bin"
 cp -R "$root/irangelda" "$root/desk" "$made"
-printf 'leaf:\nirangelda: leaf\nlist_batch: leaf irangelda io\nrestore_listing: leaf irangelda io\nname_grants: leaf irangelda io\n' >"$made/crates.txt"
+cp "$root/.ci/judged" "$made/.ci"
+cat >"$made/crates.txt" <<'END'
+leaf:
+irangelda: leaf
+irangelda_c staticlib: leaf irangelda
+list_batch: leaf irangelda io
+restore_listing: leaf irangelda io
+name_grants: leaf irangelda io
+END
 source=$made/crates/leaf/src/lib.rt
 echo first >"$source"
 echo kit-1 >"$stand/version"
 : >"$stand/asked"
 command=$made/irangelda
 
-# Like rt, it trusts its own stamp and does not look at what it built. Files beside it make it slow, or fail.
+# Like rt, it works in a crate's folder, runs the program that it builds, and builds it anew where it is not what it left. Files beside it
+# make it slow, or fail.
 cat >"$stand/rt" <<'END'
 #!/bin/sh
 stand=$(dirname "$0")
-[ "$1" != version ] || exec cat "$stand/version"
-source=$(cat crates/leaf/src/lib.rt)
-echo "$*" >>"$stand/asked"
-echo 'rt: leaf proved (1 s)'
-[ ! -f "$stand/slow" ] || sleep 2
-[ ! -f "$stand/fails" ] || { echo 'rt: list_batch NOT PROVED' && exit 1; }
-mkdir -p target/bin target/stamp target/staticlib
-case $* in
-staticlib*) echo "$source" >target/staticlib/libirangelda.a ;;
-*list_batch* | *restore_listing* | *name_grants*)
-    [ "$(cat "target/stamp/$2" 2>/dev/null)" != "$source" ] || exit 0
-    printf '#!/bin/sh\ncat >/dev/null\n%s\n' "$(cat "$stand/prints")" | sed "s/SOURCE/$source/" >"target/bin/$2"
-    chmod +x "target/bin/$2"
-    echo "$source" >"target/stamp/$2"
-    ;;
+case $1 in
+version) exec cat "$stand/version" ;;
+doc) exec echo "$stand/kit/START-HERE.md" ;;
 esac
+crate=${PWD##*/}
+source=$(cat ../leaf/src/lib.rt)
+echo "$* in $crate" >>"$stand/asked"
+echo 'crate leaf: modules loaded=0 checked=1'
+[ ! -f "$stand/slow" ] || sleep 2
+[ ! -f "$stand/fails" ] || { echo "rt: $crate NOT PROVED" && exit 1; }
+mkdir -p out
+is_left() { [ -f "out/$crate" ] && [ "$(cat "out/$crate.stamp" 2>/dev/null)" = "$source $(sha256sum <"out/$crate")" ]; }
+case $* in
+lib) echo "$source" >"out/lib$crate.a" ;;
+run)
+    is_left || "$stand/build" "$crate" "$source"
+    echo "$source $(sha256sum <"out/$crate")" >"out/$crate.stamp"
+    echo "rt: running out/$crate"
+    exec "out/$crate"
+    ;;
+*) exit 2 ;;
+esac
+END
+cat >"$stand/build" <<'END'
+#!/bin/sh
+printf '#!/bin/sh\ncat >/dev/null\n%s\n' "$(cat "$(dirname "$0")/prints")" | sed "s/SOURCE/$2/" >"out/$1"
+chmod +x "out/$1"
 END
 # The program that it builds is for any machine.
 printf '#!/bin/sh\necho x86_64\n' >"$stand/uname"
 echo 'echo cells=1 SOURCE' >"$stand/prints"
-chmod +x "$stand/rt" "$stand/uname"
+chmod +x "$stand/rt" "$stand/build" "$stand/uname"
 old_path=$PATH
 PATH=$stand:$PATH
 
@@ -74,11 +97,15 @@ lists 'another crates.txt' 1
 echo kit-2 >"$stand/version"
 lists 'another rt' 1
 lists 'the same rt' 0
-rm "$made/target/bin/list_batch"
+built=$made/crates/list_batch/out/list_batch
+rm "$built"
 lists 'a program that is gone' 1
-printf '#!/bin/sh\necho cells=0\n' >"$made/target/bin/list_batch"
+printf '#!/bin/sh\necho cells=0\n' >"$built"
 lists 'a program that was replaced' 1
-printf '#!/bin/sh\necho cells=0\n' >"$made/target/bin/list_batch"
+mkdir -p "$made/crates/leaf/out"
+echo more >"$made/crates/leaf/out/more.rt"
+lists 'what rt made of a crate, which is no source' 0
+printf '#!/bin/sh\necho cells=0\n' >"$built"
 echo third >"$made/crates/list_batch/src/main.rt"
 lists 'a program that was replaced, and another source' 1
 
@@ -94,7 +121,7 @@ echo fourth >"$source"
 : >"$stand/fails"
 for time in first second; do
     fails "a build that fails, the $time time" 'list_batch NOT PROVED'
-    said "a build that fails, the $time time" 'target/built/list_batch.log'
+    said "a build that fails, the $time time" 'out/built/list_batch.log'
 done
 rm "$stand/fails"
 lists 'after a build that fails' 1
@@ -146,7 +173,7 @@ rm "$stand/slow"
 
 prints() { # NAME COMMANDS TEXT
     echo "$2" >"$stand/prints"
-    rm "$made/target/bin/list_batch"
+    rm "$built"
     fails "$1" "$3"
 }
 prints 'a program that prints nothing' : 'neither a listing nor a refusal'
@@ -163,7 +190,7 @@ names() { # NAME BYTES
 no_answer() { # NAME BYTES PROGRAM USE..
     name=$1
     echo "printf '$2'" >"$stand/prints"
-    rm -f "$made/target/bin/$3"
+    rm -f "$made/crates/$3/out/$3"
     shift 3
     desk "$@" </dev/null
     ended "$name" 3
@@ -208,17 +235,64 @@ archive() { # NAME TIMES
     : >"$stand/asked"
     (root=$made && . "$made/desk/fresh.sh" && fresh_archive irangelda) 2>"$work/said"
     status=$?
-    cp "$made/target/staticlib/libirangelda.a" "$work/got"
+    cp "$made/out/libirangelda.a" "$work/got"
     cp "$source" "$work/want"
     printed "$1"
     asked "$1" "$2"
     if [ "$status" = 0 ]; then pass; else fail "$1" "status $status"; fi
 }
-archive 'an archive, the first time' 2
+archive 'an archive, the first time' 1
 archive 'an archive, the second time' 0
 echo tenth >"$source"
-archive 'an archive of another source' 2
-echo another >"$made/target/staticlib/libirangelda.a"
-archive 'an archive that was replaced' 2
+archive 'an archive of another source' 1
+echo another >"$made/out/libirangelda.a"
+archive 'an archive that was replaced' 1
+
+# ---- what `rt ci` left is taken, as .ci/run does it
+
+echo 'echo cells=1 SOURCE' >"$stand/prints"
+cat >"$stand/kit/bin/rattle" <<'END'
+#!/bin/sh
+[ "$*" = "$(cat "$(dirname "$0")/wanted")" ] || exit 1
+cat ../leaf/src/lib.rt >out/libirangelda_c.a
+END
+chmod +x "$stand/kit/bin/rattle"
+kit=$stand/kit
+echo "build --crate-name irangelda_c src/lib.rt --crate-type staticlib --extern std=$kit/rlibs/std.rlib" \
+    "--extern leaf=../leaf/out/rlib/leaf.rlib --extern irangelda=../irangelda/out/rlib/irangelda.rlib -L dependency=../leaf/out/rlib" \
+    "-L dependency=../irangelda/out/rlib -L dependency=$kit/rlibs --antt-project $kit/rattle/logic/antt-project.json" \
+    "--logic-built $kit/logic_built --jobs 2 --links irangelda_c= --toolchain $kit/toolchain --backend llvm -o out/libirangelda_c.a" >"$kit/bin/wanted"
+
+leaves() { # SOURCE: programs, and libraries without a stamp; before that, what the sources sum up to
+    echo "$1" >"$source"
+    sources=$("$made/.ci/judged" sum)
+    for crate in leaf irangelda; do
+        rm -rf "$made/crates/$crate/out"
+        mkdir -p "$made/crates/$crate/out/rlib/$crate.rlib"
+    done
+    for crate in list_batch restore_listing name_grants; do
+        (cd "$made/crates/$crate" && rm -rf out && mkdir out && "$stand/build" "$crate" "$1")
+    done
+}
+leaves eleventh
+"$made/.ci/judged" take "$sources"
+lists 'what rt ci built' 0
+archive 'an archive over what rt ci proved' 0
+leaves twelfth
+echo thirteenth >"$source"
+"$made/.ci/judged" take "$sources" 2>"$work/said"
+said 'a source that changed meanwhile' 'have changed'
+lists 'a source that changed meanwhile' 1
+archive 'an archive of a source that changed meanwhile' 1
+leaves fourteenth
+touch "$made/crates/leaf/out/rlib/stamp"
+"$made/.ci/judged" take "$sources"
+archive 'an archive over libraries that rt stamped' 1
+leaves fifteenth
+echo other >"$kit/bin/wanted"
+"$made/.ci/judged" take "$sources" 2>"$work/said"
+said 'an archive that cannot be built' 'out/built/libirangelda.a.log'
+archive 'an archive that cannot be built' 1
+lists 'a program beside such an archive' 0
 
 PATH=$old_path

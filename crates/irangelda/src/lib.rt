@@ -1,4 +1,4 @@
-// The calls of the driver: every buffer is bytes, and the answer is one number.
+// The calls of the driver: every buffer is bytes, and the answer is one number. Crate irangelda_c exports them to C.
 #![tactic(auto)]
 
 ghost use Rattle.std.specs.Prelude.{◌≡◌, ◌&&◌, [], ◌∷◌, ◌≤◌};
@@ -72,8 +72,7 @@ fn number(answer: Answer) -> u64
 
 // Reads a batch: 13, 1, 2, then what the first bad word gives, or 10; else 0 and the batch's length in words. The state is changed only if
 // the whole batch is accepted.
-#[unsafe(no_mangle)]
-pub extern "C" fn irangelda_read(batch: &[u8], grants: &[u8], state: &mut [u8]) -> u64
+pub fn irangelda_read(batch: &[u8], grants: &[u8], state: &mut [u8]) -> u64
     ensures number { result ≡ number_of (exported.exported_read batch.now grants.now state.old) }
     ensures bytes { state.new ≡ exported.exported_read_leaves batch.now grants.now state.old }
 {
@@ -85,8 +84,7 @@ pub extern "C" fn irangelda_read(batch: &[u8], grants: &[u8], state: &mut [u8]) 
 
 // Tells how many words the batch has that reaches a state from the empty state: 13, 1, 2 and 12, else 0 and the words that irangelda_write
 // needs.
-#[unsafe(no_mangle)]
-pub extern "C" fn irangelda_size(state: &[u8], grants: &[u8]) -> u64
+pub fn irangelda_size(state: &[u8], grants: &[u8]) -> u64
     ensures number { result ≡ number_of (exported.exported_size state.now grants.now) }
 {
     if !two_buffers_fine(state, grants) {
@@ -96,8 +94,7 @@ pub extern "C" fn irangelda_size(state: &[u8], grants: &[u8]) -> u64
 }
 
 // Writes the batch that reaches a state from the empty state: 13, 1, 2, 12 and 11 in the order of the rules, else 0 and the words written.
-#[unsafe(no_mangle)]
-pub extern "C" fn irangelda_write(state: &[u8], grants: &[u8], out: &mut [u8]) -> u64
+pub fn irangelda_write(state: &[u8], grants: &[u8], out: &mut [u8]) -> u64
     ensures number { result ≡ number_of (exported.exported_write state.now grants.now out.old) }
     ensures bytes { out.new ≡ exported.exported_write_leaves state.now grants.now out.old }
 {
@@ -108,8 +105,7 @@ pub extern "C" fn irangelda_write(state: &[u8], grants: &[u8], out: &mut [u8]) -
 }
 
 // Lists a state: 13, 1 and 11, else 0 and the bytes written.
-#[unsafe(no_mangle)]
-pub extern "C" fn irangelda_list(state: &[u8], out: &mut [u8]) -> u64
+pub fn irangelda_list(state: &[u8], out: &mut [u8]) -> u64
     ensures number { result ≡ number_of (exported.exported_list state.now out.old) }
     ensures bytes { out.new ≡ exported.exported_list_leaves state.now out.old }
 {
@@ -120,8 +116,7 @@ pub extern "C" fn irangelda_list(state: &[u8], out: &mut [u8]) -> u64
 }
 
 // Reads a listing back: 13, 1 and 19, else 0 and the listing's length. The state is changed only if the whole text is a listing.
-#[unsafe(no_mangle)]
-pub extern "C" fn irangelda_read_listing(listing: &[u8], state: &mut [u8]) -> u64
+pub fn irangelda_read_listing(listing: &[u8], state: &mut [u8]) -> u64
     ensures number { result ≡ number_of (exported.exported_read_listing listing.now state.old) }
     ensures bytes { state.new ≡ exported.exported_read_listing_leaves listing.now state.old }
 {
@@ -133,8 +128,7 @@ pub extern "C" fn irangelda_read_listing(listing: &[u8], state: &mut [u8]) -> u6
 
 // Which grant admits the address in a cell: 13, 1 and 2, else 0 and the number of the grant, or 64 where there is none. The cell is any
 // number.
-#[unsafe(no_mangle)]
-pub extern "C" fn irangelda_which_grant(state: &[u8], grants: &[u8], cell: u32) -> u64
+pub fn irangelda_which_grant(state: &[u8], grants: &[u8], cell: u32) -> u64
     ensures number { result ≡ number_of (exported.exported_which_grant state.now grants.now (registers.cell cell)) }
 {
     if !two_buffers_fine(state, grants) {

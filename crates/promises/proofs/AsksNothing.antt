@@ -45,13 +45,13 @@ use Rattle.keeping.proofs.begin.Reads as begin
 use Rattle.keeping.proofs.place.Reads as place
 use Rattle.pair.proofs.which.Reads as pair_which
 use Rattle.pair.proofs.fine.Reads as pair_fine
-use Rattle.pair.proofs.kept.Reads as pair_kept_lem
+use Rattle.pair.proofs.kept.Reads as pair_kept
 use Rattle.rules.proofs.must_be_clear.Reads as must_be_clear
-use Rattle.rules.proofs.alpha_constants.Reads as alpha_constants_row
+use Rattle.rules.proofs.alpha_constants.Reads as alpha_constants
 use Rattle.rules.proofs.location.Reads as location
 use Rattle.rules.proofs.bytes_per_pixel.Reads as bytes_per_pixel
 use Rattle.rules.proofs.format_byte.Reads as format_byte
-use Rattle.rules.proofs.alpha_select.Reads as alpha_select_row
+use Rattle.rules.proofs.alpha_select.Reads as alpha_select
 use Rattle.rules.proofs.memory_location.Reads as memory_location
 use Rattle.sampling.proofs.levels.Reads as levels
 use Rattle.sampling.proofs.filters.Reads as filters
@@ -75,7 +75,7 @@ use Rattle.rows_video.proofs.address_reason.Reads as address_reason
 use Rattle.rows_video.proofs.destination_stride_reason.Reads as destination_stride_reason
 use Rattle.rows_video.proofs.source_stride_reason.Reads as source_stride_reason
 use Rattle.headers.proofs.header_of.Reads as header_of
-use Rattle.headers.proofs.group_of.Reads as Group-of
+use Rattle.headers.proofs.group_of.Reads as group_of
 use Rattle.judging.proofs.judge_parameter.Reads as judge_parameter
 use Rattle.judging.proofs.overlay_reason.Reads as overlay_word
 use Rattle.judging.proofs.scaler_reason.Reads as scaler_word
@@ -274,7 +274,7 @@ pub pair_fine_asks : AsksExactly pair_fine.Asked (λ _ (state, (starts, (lasts, 
     (length (words_of state.now) ≡ state_words) × ((part.to ≤ most_grants) × (known ≡ true → KnownLocal starts.now lasts.now numbers.now part (words_of state.now))))
 pair_fine_asks κs a = asks_this
 
-pub pair_kept_asks : AsksExactly pair_kept_lem.Asked (λ _ (_, (_, (own, (starts, (lasts, (numbers, (part, (known, _)))))))).
+pub pair_kept_asks : AsksExactly pair_kept.Asked (λ _ (_, (_, (own, (starts, (lasts, (numbers, (part, (known, _)))))))).
     (length own.now ≡ state_words) × ((part.to ≤ most_grants) × (known ≡ true → KnownLocal starts.now lasts.now numbers.now part own.now)))
 pair_kept_asks κs a = asks_this
 
@@ -283,7 +283,7 @@ pair_kept_asks κs a = asks_this
 pub must_be_clear_asks : AsksNothing must_be_clear.Asked
 must_be_clear_asks κs a = nothing_asked
 
-pub alpha_constants_asks : AsksNothing alpha_constants_row.Asked
+pub alpha_constants_asks : AsksNothing alpha_constants.Asked
 alpha_constants_asks κs a = nothing_asked
 
 pub location_asks : AsksNothing location.Asked
@@ -295,7 +295,7 @@ bytes_per_pixel_asks κs a = nothing_asked
 pub format_byte_asks : AsksNothing format_byte.Asked
 format_byte_asks κs a = nothing_asked
 
-pub alpha_select_asks : AsksNothing alpha_select_row.Asked
+pub alpha_select_asks : AsksNothing alpha_select.Asked
 alpha_select_asks κs a = nothing_asked
 
 pub memory_location_asks : AsksNothing memory_location.Asked
@@ -375,7 +375,7 @@ source_stride_reason_asks κs a = nothing_asked
 pub header_of_asks : AsksNothing header_of.Asked
 header_of_asks κs a = nothing_asked
 
-pub group_of_asks : AsksNothing Group-of.Asked
+pub group_of_asks : AsksNothing group_of.Asked
 group_of_asks κs a = nothing_asked
 
 -- ---- judging

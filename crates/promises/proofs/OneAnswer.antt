@@ -17,14 +17,14 @@ use Rattle.fields.proofs.sub_type.Reads as sub_type
 use Rattle.fields.proofs.sub_address.Reads as sub_address
 use Rattle.fields.proofs.data.Reads as data_bits
 use Rattle.rules.proofs.must_be_clear.Reads as must_be_clear
-use Rattle.rules.proofs.alpha_constants.Reads as alpha_constants_row
+use Rattle.rules.proofs.alpha_constants.Reads as alpha_constants
 use Rattle.rules.proofs.location.Reads as location
 use Rattle.rules.proofs.bytes_per_pixel.Reads as bytes_per_pixel
 use Rattle.rules.proofs.format_byte.Reads as format_byte
 use Rattle.sampling.proofs.levels.Reads as levels
 use Rattle.sampling.proofs.filters.Reads as filters
 use Rattle.sampling.proofs.mapping.Reads as mapping
-use Rattle.rules.proofs.alpha_select.Reads as alpha_select_row
+use Rattle.rules.proofs.alpha_select.Reads as alpha_select
 use Rattle.rules.proofs.memory_location.Reads as memory_location
 use Rattle.registers.proofs.name_of.Reads as name_of
 use Rattle.registers.proofs.offset_of.Reads as offset_of
@@ -58,7 +58,7 @@ use Rattle.rows_video.proofs.destination_stride_reason.Reads as destination_stri
 use Rattle.rows_video.proofs.source_stride_reason.Reads as source_stride_reason
 use Rattle.headers.proofs.Groups.{some_setting}
 use Rattle.headers.proofs.header_of.Reads as header_of
-use Rattle.headers.proofs.group_of.Reads as Group-of
+use Rattle.headers.proofs.group_of.Reads as group_of
 use Rattle.judging.proofs.judge_parameter.Reads as judge_parameter
 use Rattle.judging.proofs.overlay_reason.Reads as overlay_word
 use Rattle.judging.proofs.scaler_reason.Reads as scaler_word
@@ -71,7 +71,7 @@ use Rattle.keeping.proofs.begin.Reads as begin
 use Rattle.keeping.proofs.place.Reads as place
 use Rattle.pair.proofs.which.Reads as pair_which
 use Rattle.pair.proofs.fine.Reads as pair_fine
-use Rattle.pair.proofs.kept.Reads as pair_kept_lem
+use Rattle.pair.proofs.kept.Reads as pair_kept
 use Rattle.asking.specs.Asked.{capped}
 use Rattle.asking.proofs.part_of.Reads as byte_part_of
 use Rattle.asking.proofs.ask.Reads as ask
@@ -132,7 +132,7 @@ data_bits_one κs a r r' s s' p q = one_answer p q
 pub must_be_clear_one : Determined must_be_clear.Learnt
 must_be_clear_one κs a r r' s s' p q = one_answer p q
 
-pub alpha_constants_one : Determined alpha_constants_row.Learnt
+pub alpha_constants_one : Determined alpha_constants.Learnt
 alpha_constants_one κs a r r' s s' p q = one_answer p q
 
 pub location_one : Determined location.Learnt
@@ -153,7 +153,7 @@ filters_one κs a r r' s s' p q = one_answer p q
 pub mapping_one : Determined mapping.Learnt
 mapping_one κs a r r' s s' p q = one_answer p q
 
-pub alpha_select_one : Determined alpha_select_row.Learnt
+pub alpha_select_one : Determined alpha_select.Learnt
 alpha_select_one κs a r r' s s' p q = one_answer p q
 
 pub memory_location_one : Determined memory_location.Learnt
@@ -263,7 +263,7 @@ source_stride_reason_one κs a r r' s s' p q = one_answer (p ungranted 87 2 firs
 pub header_of_one : Determined header_of.Learnt
 header_of_one κs a r r' s s' p q = one_answer p q
 
-pub group_of_one : Determined Group-of.Learnt
+pub group_of_one : Determined group_of.Learnt
 group_of_one κs a r r' s s' p q = one_answer p q
 
 pub judge_parameter_one : Determined judge_parameter.Learnt
@@ -329,7 +329,7 @@ pair_which_one κs a r r' s s' p q = one_answer p q
 pub pair_fine_one : Determined pair_fine.Learnt
 pair_fine_one κs a r r' s s' p q = one_answer p q
 
-pub pair_kept_one : (κs : _) (a : _) (r r' : _) (s s' : _) → pair_kept_lem.Learnt κs a r s → pair_kept_lem.Learnt κs a r' s' → (r ≡ r') × (s.1.1.0.now ≡ s'.1.1.0.now)
+pub pair_kept_one : (κs : _) (a : _) (r r' : _) (s s' : _) → pair_kept.Learnt κs a r s → pair_kept.Learnt κs a r' s' → (r ≡ r') × (s.1.1.0.now ≡ s'.1.1.0.now)
 pair_kept_one κs a r r' s s' p q = (one_answer p.0 q.0, one_answer p.1 q.1)
 
 -- where what is left is told by the answer, the answers are equal first
