@@ -38,14 +38,14 @@ fn call_list(state: &[u8], out: &mut [u8]) -> u64 {
 
 // The rows as the slices that a call takes: of a reference to an array the length is known.
 fn lend_read(desk: &Desk, state: &mut Row, bytes: usize) -> u64 {
-    call_read(&desk[TEXT], len(desk, TEXT), state, bytes)
+    call_read(&desk.lists[TEXT], len(desk, TEXT), state, bytes)
 }
 
 // Reads the text, lent so many bytes of what stands at BEFORE; LEFT is what it leaves.
 pub(super) fn read(desk: &mut Desk, bytes: usize) -> u64 {
-    let mut state = desk[BEFORE];
+    let mut state = desk.lists[BEFORE];
     let told = lend_read(desk, &mut state, bytes);
-    desk[LEFT] = state;
+    desk.lists[LEFT] = state;
     told
 }
 

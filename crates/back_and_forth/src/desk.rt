@@ -1,11 +1,20 @@
-// The desk: every list that the program works on, side by side; and the dice.
+// The desk: every list that the program works on, side by side, and where its lines are printed; and the dice.
 //
 // A list is bytes from the front, or words with the lowest byte of each first, and has its length in its last word. Every
 // function takes any list and any index: past the room nothing is read and nothing is stored.
 
+use std::io;
+use std::io::Write;
+
 pub(super) type Row = [u8; 3072];
 
-pub(super) type Desk = [Row; 12];
+#[derive(Drop)]
+pub(super) struct Desk {
+    pub(super) lists: [Row; 12],
+    pub(super) rt: HostRuntime,
+    // Whether all could be printed so far.
+    pub(super) printed: io::Result<()>,
+}
 
 // What is counted: tally says where.
 pub(super) const COUNTS: usize = 0;
@@ -53,7 +62,7 @@ fn word_in(row: &Row, i: usize) -> u32 {
 
 pub(super) fn at(desk: &Desk, list: usize, i: usize) -> u32 {
     if list < 12 {
-        word_in(&desk[list], i)
+        word_in(&desk.lists[list], i)
     } else {
         0
     }
@@ -71,14 +80,14 @@ fn put_in(row: &mut Row, i: usize, word: u32) {
 
 pub(super) fn put(desk: &mut Desk, list: usize, i: usize, word: u32) {
     if list < 12 {
-        put_in(&mut desk[list], i, word);
+        put_in(&mut desk.lists[list], i, word);
     }
 }
 
 pub(super) fn byte_at(desk: &Desk, list: usize, i: usize) -> u8 {
     if list < 12 {
         if i < 3072 {
-            return desk[list][i];
+            return desk.lists[list][i];
         }
     }
     0
@@ -87,7 +96,7 @@ pub(super) fn byte_at(desk: &Desk, list: usize, i: usize) -> u8 {
 pub(super) fn put_byte(desk: &mut Desk, list: usize, i: usize, byte: u8) {
     if list < 12 {
         if i < 3072 {
-            desk[list][i] = byte;
+            desk.lists[list][i] = byte;
         }
     }
 }
@@ -152,12 +161,16 @@ pub(super) fn lay_state(desk: &mut Desk, from: usize, to: usize) {
 }
 
 pub(super) fn row(desk: &Desk, list: usize) -> Row {
-    if list < 12 { desk[list] } else { [0u8; 3072] }
+    if list < 12 {
+        desk.lists[list]
+    } else {
+        [0u8; 3072]
+    }
 }
 
 pub(super) fn put_row(desk: &mut Desk, list: usize, row: Row) {
     if list < 12 {
-        desk[list] = row;
+        desk.lists[list] = row;
     }
 }
 
@@ -172,4 +185,17 @@ pub(super) fn dice(seed: u32, throws: u32) -> u32 {
     let a = scrambled(sum(sum(seed, throws), 0x9e3779b9));
     let b = scrambled(sum(a, a << 7));
     scrambled(sum(b, b << 12))
+}
+
+// Prints bytes, unless some before them could not be printed.
+pub(super) fn print(desk: &mut Desk, text: &[u8]) {
+    if desk.printed.is_ok() {
+        desk.printed = desk.rt.stdout().write_all(text);
+    }
+}
+
+pub(super) fn print_decimal(desk: &mut Desk, number: u64) {
+    if desk.printed.is_ok() {
+        desk.printed = print!(desk.rt; "{number}");
+    }
 }

@@ -1,10 +1,10 @@
 // What is counted and told: calls of the family at work, differences with a line for each of the first, calls by reason,
 // and where the second reader stopped in a text that is no listing.
 use super::desk::{
-    BEFORE, COUNTS, Desk, ENDED, LEFT, RIGHT, TEXT, TITLE, at, copy, len, plus, put, same, sum,
+    BEFORE, COUNTS, Desk, ENDED, LEFT, RIGHT, TEXT, TITLE, at, copy, len, plus, print,
+    print_decimal, put, row, same, sum,
 };
 use super::{calls, second};
-use libc::STDOUT_FILENO;
 
 // Where COUNTS has what. Calls by reason stand from 0 on; from PARTS on, two for each part of a text: how many texts end
 // there, and how many go on with a byte that begins no listing.
@@ -19,31 +19,32 @@ fn add_one(desk: &mut Desk, i: usize) {
     put(desk, COUNTS, i, sum(counted, 1));
 }
 
-fn say(key: &[u8], number: u64) {
-    io::write_all(STDOUT_FILENO, key);
-    io::print_decimal(STDOUT_FILENO, number);
+fn say(desk: &mut Desk, key: &[u8], number: u64) {
+    print(desk, key);
+    print_decimal(desk, number);
 }
 
-fn say_count(desk: &Desk, key: &[u8], i: usize) {
-    say(key, at(desk, COUNTS, i) as u64);
+fn say_count(desk: &mut Desk, key: &[u8], i: usize) {
+    let counted = at(desk, COUNTS, i);
+    say(desk, key, counted as u64);
 }
 
-fn end_line() {
-    io::write_all(STDOUT_FILENO, b"\n");
+fn end_line(desk: &mut Desk) {
+    print(desk, b"\n");
 }
 
-fn say_answer(key: &[u8], told: u64) {
-    say(key, told % 256);
-    say(b" at ", told / 256);
+fn say_answer(desk: &mut Desk, key: &[u8], told: u64) {
+    say(desk, key, told % 256);
+    say(desk, b" at ", told / 256);
 }
 
 // The first five differences are told: in the family whose line comes next, the call, and the two answers.
-fn tell_difference(desk: &Desk, first: u64, other: u64) {
+fn tell_difference(desk: &mut Desk, first: u64, other: u64) {
     if at(desk, COUNTS, DIFFERENCES) < 6 {
         say_count(desk, b"difference: call=", CALLS);
-        say_answer(b" first=", first);
-        say_answer(b" expected=", other);
-        end_line();
+        say_answer(desk, b" first=", first);
+        say_answer(desk, b" expected=", other);
+        end_line(desk);
     }
 }
 
@@ -100,33 +101,34 @@ pub(super) fn check_stated(desk: &mut Desk, stated: u64) {
     }
 }
 
-fn say_title(desk: &Desk) {
-    io::write_all(STDOUT_FILENO, calls::part(&desk[TITLE], len(desk, TITLE)));
+fn say_title(desk: &mut Desk) {
+    let title = row(desk, TITLE);
+    let n = len(desk, TITLE);
+    print(desk, calls::part(&title, n));
 }
 
 pub(super) fn end_family(desk: &mut Desk) {
-    let seen = &*desk;
-    say_title(seen);
-    say_count(seen, b" calls=", CALLS);
-    say_count(seen, b" differences so far=", DIFFERENCES);
-    end_line();
+    say_title(desk);
+    say_count(desk, b" calls=", CALLS);
+    say_count(desk, b" differences so far=", DIFFERENCES);
+    end_line(desk);
     put(desk, COUNTS, CALLS, 0);
 }
 
 // So many counts, under the title.
-pub(super) fn tell_counts(desk: &Desk, first: usize, n: usize) {
+pub(super) fn tell_counts(desk: &mut Desk, first: usize, n: usize) {
     say_title(desk);
     for i in 0..n {
         say_count(desk, b" ", plus(first, i));
     }
-    end_line();
+    end_line(desk);
 }
 
-pub(super) fn tell_end(desk: &Desk) {
+pub(super) fn tell_end(desk: &mut Desk) {
     if at(desk, COUNTS, DIFFERENCES) == 0 {
-        io::write_all(STDOUT_FILENO, b"all as expected\n");
+        print(desk, b"all as expected\n");
     } else {
         say_count(desk, b"NOT as expected: differences=", DIFFERENCES);
-        end_line();
+        end_line(desk);
     }
 }

@@ -70,22 +70,22 @@ fn lend_lists(desk: &Desk, kind: usize, into: &mut Row, bytes: usize) -> u64 {
     let from = row(desk, list_of(kind));
     let n = lent(desk, list_of(kind), bytes);
     let g = lent(desk, GRANTS, bytes);
-    lend(kind, &from, n, &desk[GRANTS], g, into, bytes)
+    lend(kind, &from, n, &desk.lists[GRANTS], g, into, bytes)
 }
 
 // Calls the first one, lent so many bytes of what stands at BEFORE; LEFT is what it leaves.
 pub(super) fn first(desk: &mut Desk, kind: usize, bytes: usize) -> u64 {
-    let mut into = desk[BEFORE];
+    let mut into = desk.lists[BEFORE];
     let told = lend_lists(desk, kind, &mut into, bytes);
-    desk[LEFT] = into;
+    desk.lists[LEFT] = into;
     told
 }
 
 // Opens an engine with the state and the grants.
 pub(super) fn open_first(desk: &Desk) -> Engine {
     let more = len(desk, BATCH);
-    let state: &[u8] = &desk[STATE];
-    let grants: &[u8] = &desk[GRANTS];
+    let state: &[u8] = &desk.lists[STATE];
+    let grants: &[u8] = &desk.lists[GRANTS];
     engine::open(
         part(state, lent(desk, STATE, more)),
         part(grants, lent(desk, GRANTS, more)),

@@ -1,11 +1,20 @@
-// The desk: every list that the program works on, side by side; and the dice.
+// The desk: every list that the program works on, side by side, and where its lines are printed; and the dice.
 //
 // A list has its words from the front, the lowest byte of each first, and how many they are in its last place. Every
 // function takes any list and any index: past the room nothing is read and nothing is stored.
 
+use std::io;
+use std::io::Write;
+
 pub(super) type Row = [u8; 4096];
 
-pub(super) type Desk = [Row; 9];
+#[derive(Drop)]
+pub(super) struct Desk {
+    pub(super) lists: [Row; 9],
+    pub(super) rt: HostRuntime,
+    // Whether all could be printed so far.
+    pub(super) printed: io::Result<()>,
+}
 
 // What is counted (tally says where), the state handed in, and the buffer that a call may change: as the first one
 // leaves it, as the second one does, and as it was.
@@ -43,7 +52,11 @@ fn word_in(row: &Row, i: usize) -> u32 {
 }
 
 pub(super) fn at(desk: &Desk, list: usize, i: usize) -> u32 {
-    if list < 9 { word_in(&desk[list], i) } else { 0 }
+    if list < 9 {
+        word_in(&desk.lists[list], i)
+    } else {
+        0
+    }
 }
 
 fn put_in(row: &mut Row, i: usize, word: u32) {
@@ -58,7 +71,7 @@ fn put_in(row: &mut Row, i: usize, word: u32) {
 
 pub(super) fn put(desk: &mut Desk, list: usize, i: usize, word: u32) {
     if list < 9 {
-        put_in(&mut desk[list], i, word);
+        put_in(&mut desk.lists[list], i, word);
     }
 }
 
@@ -108,7 +121,7 @@ pub(super) fn push(desk: &mut Desk, list: usize, word: u32) {
 pub(super) fn fill(desk: &mut Desk, list: usize, byte: u8, n: usize) {
     let row = [byte; 4096];
     if list < 9 {
-        desk[list] = row;
+        desk.lists[list] = row;
     }
     cut(desk, list, n);
 }
@@ -116,14 +129,18 @@ pub(super) fn fill(desk: &mut Desk, list: usize, byte: u8, n: usize) {
 pub(super) fn copy(desk: &mut Desk, from: usize, to: usize) {
     if from < 9 {
         if to < 9 {
-            let row = desk[from];
-            desk[to] = row;
+            let row = desk.lists[from];
+            desk.lists[to] = row;
         }
     }
 }
 
 pub(super) fn row(desk: &Desk, list: usize) -> Row {
-    if list < 9 { desk[list] } else { [0u8; 4096] }
+    if list < 9 {
+        desk.lists[list]
+    } else {
+        [0u8; 4096]
+    }
 }
 
 // Equal in every byte of the room, so also past the end, and in length.
@@ -151,4 +168,17 @@ pub(super) fn dice(seed: u32, throws: u32) -> u32 {
     let a = scrambled(sum(sum(seed, throws), 0x9e3779b9));
     let b = scrambled(sum(a, a << 7));
     scrambled(sum(b, b << 11))
+}
+
+// Prints bytes, unless some before them could not be printed.
+pub(super) fn print(desk: &mut Desk, text: &[u8]) {
+    if desk.printed.is_ok() {
+        desk.printed = desk.rt.stdout().write_all(text);
+    }
+}
+
+pub(super) fn print_decimal(desk: &mut Desk, number: u64) {
+    if desk.printed.is_ok() {
+        desk.printed = print!(desk.rt; "{number}");
+    }
 }

@@ -15,8 +15,15 @@ mod second;
 mod table;
 mod tally;
 
-fn main() {
-    let mut desk = [[0u8; 4096]; 9];
+use desk::Desk;
+use std::io;
+
+fn main(rt: HostRuntime) -> io::Result<()> {
+    let mut desk = Desk {
+        lists: [[0u8; 4096]; 9],
+        rt,
+        printed: Ok(()),
+    };
     families::every_prefix_and_bit(&mut desk, b"family=every-prefix-and-every-bit", 100);
     families::made_up(&mut desk, b"family=values-taken", 0, 0, 12000);
     families::made_up(&mut desk, b"family=values-some-refused", 4, 0, 60000);
@@ -26,5 +33,6 @@ fn main() {
     families::made_up(&mut desk, b"family=batch-cut", 0, 4, 8000);
     families::made_up(&mut desk, b"family=grants-cut", 0, 5, 4000);
     families::made_up(&mut desk, b"family=state-cut", 0, 6, 4000);
-    tally::tell(&desk);
+    tally::tell(&mut desk);
+    desk.printed
 }

@@ -3,11 +3,10 @@
 use super::calls::{READ, SIZE, WRITE};
 use super::desk::{
     BATCH, BEFORE, COUNTS, Desk, GRANTS, LEFT, RIGHT, STATE, at, copy, dice, fill, len, minus,
-    narrow, plus, put, same, sum,
+    narrow, plus, print, print_decimal, put, same, sum,
 };
 use super::fed::{feed_words, nearly_full};
 use super::{calls, second};
-use libc::STDOUT_FILENO;
 
 // Where COUNTS has what, beside two tables with four numbers in a line: calls by reason, from line 0 on, and made-up
 // values by row, from line 16 on.
@@ -27,26 +26,27 @@ fn add_one(desk: &mut Desk, i: usize) {
     put(desk, COUNTS, i, sum(counted, 1));
 }
 
-fn say(key: &[u8], number: u64) {
-    io::write_all(STDOUT_FILENO, key);
-    io::print_decimal(STDOUT_FILENO, number);
+fn say(desk: &mut Desk, key: &[u8], number: u64) {
+    print(desk, key);
+    print_decimal(desk, number);
 }
 
-fn say_count(desk: &Desk, key: &[u8], i: usize) {
-    say(key, at(desk, COUNTS, i) as u64);
+fn say_count(desk: &mut Desk, key: &[u8], i: usize) {
+    let counted = at(desk, COUNTS, i);
+    say(desk, key, counted as u64);
 }
 
-fn end_line() {
-    io::write_all(STDOUT_FILENO, b"\n");
+fn end_line(desk: &mut Desk) {
+    print(desk, b"\n");
 }
 
 // The first five differences are told, with the answers as numbers.
-fn tell_difference(desk: &Desk, first: u64, other: u64) {
+fn tell_difference(desk: &mut Desk, first: u64, other: u64) {
     if at(desk, COUNTS, DIFFERENCES) < 6 {
         say_count(desk, b"difference, in the family below: call=", CALLS);
-        say(b" first=", first);
-        say(b" second=", other);
-        end_line();
+        say(desk, b" first=", first);
+        say(desk, b" second=", other);
+        end_line(desk);
     }
 }
 
@@ -125,12 +125,12 @@ pub(super) fn check_size(desk: &mut Desk) -> u64 {
     check(desk, SIZE, more)
 }
 
-fn tell_family(desk: &Desk, name: &[u8]) {
-    io::write_all(STDOUT_FILENO, name);
+fn tell_family(desk: &mut Desk, name: &[u8]) {
+    print(desk, name);
     say_count(desk, b" calls=", CALLS);
     say_count(desk, b" openings, words and closings=", FEEDS);
     say_count(desk, b" differences so far=", DIFFERENCES);
-    end_line();
+    end_line(desk);
 }
 
 pub(super) fn end_family(desk: &mut Desk, name: &[u8]) {
@@ -156,17 +156,17 @@ pub(super) fn note_value(desk: &mut Desk, cell: usize, reason: u32) {
 }
 
 // A line for each four numbers of the table from start to end.
-fn tell_table(desk: &Desk, name: &[u8], start: usize, end: usize) {
-    io::write_all(STDOUT_FILENO, name);
+fn tell_table(desk: &mut Desk, name: &[u8], start: usize, end: usize) {
+    print(desk, name);
     for i in start..end {
         say_count(desk, b" ", i);
         if i % 4 == 3 {
-            end_line();
+            end_line(desk);
         }
     }
 }
 
-pub(super) fn tell(desk: &Desk) {
+pub(super) fn tell(desk: &mut Desk) {
     tell_table(
         desk,
         b"reasons 0 to 12, 14 and 23, a line each: reads, writes with sizes, openings and words fed, closings\n",
@@ -180,9 +180,9 @@ pub(super) fn tell(desk: &Desk) {
         164,
     );
     if at(desk, COUNTS, DIFFERENCES) == 0 {
-        io::write_all(STDOUT_FILENO, b"all as expected\n");
+        print(desk, b"all as expected\n");
     } else {
         say_count(desk, b"NOT as expected: differences=", DIFFERENCES);
-        end_line();
+        end_line(desk);
     }
 }

@@ -45,9 +45,9 @@ fn lend_read(desk: &Desk, state: &mut Row) -> u64 {
     let s = len(desk, LEFT);
     let more = plus(plus(b, g), s);
     call_read(
-        &desk[BATCH],
+        &desk.lists[BATCH],
         lent(b, more),
-        &desk[GRANTS],
+        &desk.lists[GRANTS],
         lent(g, more),
         state,
         lent(s, more),
@@ -55,21 +55,26 @@ fn lend_read(desk: &Desk, state: &mut Row) -> u64 {
 }
 
 fn lend_list(desk: &Desk, out: &mut Row, room: usize) -> u64 {
-    call_list(&desk[LISTED], lent(len(desk, LISTED), room), out, room)
+    call_list(
+        &desk.lists[LISTED],
+        lent(len(desk, LISTED), room),
+        out,
+        room,
+    )
 }
 
 // Reads the batch into the state at LEFT.
 pub(super) fn read(desk: &mut Desk) -> u64 {
-    let mut state = desk[LEFT];
+    let mut state = desk.lists[LEFT];
     let told = lend_read(desk, &mut state);
-    desk[LEFT] = state;
+    desk.lists[LEFT] = state;
     told
 }
 
 // Lists the state at LISTED into the first bytes of LEFT, as many as the room.
 pub(super) fn list(desk: &mut Desk, room: usize) -> u64 {
-    let mut out = desk[LEFT];
+    let mut out = desk.lists[LEFT];
     let told = lend_list(desk, &mut out, room);
-    desk[LEFT] = out;
+    desk.lists[LEFT] = out;
     told
 }

@@ -1,11 +1,20 @@
-// The desk: every list that the program works on, side by side.
+// The desk: every list that the program works on, side by side, and where its lines are printed.
 //
 // A list has its words from the front, the lowest byte of each first, and how many they are in its last place. Every
 // function takes any list and any index: past the room nothing is read and nothing is stored.
 
+use std::io;
+use std::io::Write;
+
 pub(super) type Row = [u8; 4096];
 
-pub(super) type Desk = [Row; 12];
+#[derive(Drop)]
+pub(super) struct Desk {
+    pub(super) lists: [Row; 12],
+    pub(super) rt: HostRuntime,
+    // Whether all could be printed so far.
+    pub(super) printed: io::Result<()>,
+}
 
 // What is counted (tally says where), the state handed in, what a call has to leave, and what it leaves.
 pub(super) const COUNTS: usize = 0;
@@ -52,7 +61,7 @@ fn word_in(row: &Row, i: usize) -> u32 {
 
 pub(super) fn at(desk: &Desk, list: usize, i: usize) -> u32 {
     if list < 12 {
-        word_in(&desk[list], i)
+        word_in(&desk.lists[list], i)
     } else {
         0
     }
@@ -70,14 +79,14 @@ fn put_in(row: &mut Row, i: usize, word: u32) {
 
 pub(super) fn put(desk: &mut Desk, list: usize, i: usize, word: u32) {
     if list < 12 {
-        put_in(&mut desk[list], i, word);
+        put_in(&mut desk.lists[list], i, word);
     }
 }
 
 pub(super) fn put_byte(desk: &mut Desk, list: usize, i: usize, byte: u8) {
     if list < 12 {
         if i < 4096 {
-            desk[list][i] = byte;
+            desk.lists[list][i] = byte;
         }
     }
 }
@@ -124,7 +133,7 @@ pub(super) fn push(desk: &mut Desk, list: usize, word: u32) {
 pub(super) fn fill(desk: &mut Desk, list: usize, byte: u8, n: usize) {
     let row = [byte; 4096];
     if list < 12 {
-        desk[list] = row;
+        desk.lists[list] = row;
     }
     cut(desk, list, n);
 }
@@ -132,8 +141,8 @@ pub(super) fn fill(desk: &mut Desk, list: usize, byte: u8, n: usize) {
 pub(super) fn copy(desk: &mut Desk, from: usize, to: usize) {
     if from < 12 {
         if to < 12 {
-            let row = desk[from];
-            desk[to] = row;
+            let row = desk.lists[from];
+            desk.lists[to] = row;
         }
     }
 }
@@ -152,5 +161,18 @@ pub(super) fn push_part(desk: &mut Desk, from: usize, start: usize, end: usize, 
     for i in start..end {
         let word = at(desk, from, i);
         push(desk, to, word);
+    }
+}
+
+// Prints bytes, unless some before them could not be printed.
+pub(super) fn print(desk: &mut Desk, text: &[u8]) {
+    if desk.printed.is_ok() {
+        desk.printed = desk.rt.stdout().write_all(text);
+    }
+}
+
+pub(super) fn print_decimal(desk: &mut Desk, number: u64) {
+    if desk.printed.is_ok() {
+        desk.printed = print!(desk.rt; "{number}");
     }
 }

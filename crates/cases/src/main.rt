@@ -13,11 +13,20 @@ mod page;
 mod pairs;
 mod tally;
 
-fn main() {
-    let mut desk = [[0u8; 4096]; 12];
-    let mut bytes = io::large_buffer();
-    let n = io::read_full(0, &mut bytes);
-    page::run_page(&mut desk, &bytes[..n]);
-    tally::tell_reasons(&desk);
-    tally::tell_end(&desk);
+use desk::Desk;
+use std::io;
+use std::io::Read;
+
+fn main(rt: HostRuntime) -> io::Result<()> {
+    let mut desk = Desk {
+        lists: [[0u8; 4096]; 12],
+        rt,
+        printed: Ok(()),
+    };
+    let mut page = Vec::new(rt.alloc());
+    rt.stdin().read_to_end(&mut page)?;
+    page::run_page(&mut desk, &page);
+    tally::tell_reasons(&mut desk);
+    tally::tell_end(&mut desk);
+    desk.printed
 }

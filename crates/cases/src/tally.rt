@@ -1,10 +1,10 @@
 // What is counted and told: calls and differences of the family at work, calls by reason, and a line for each of a
 // family's first differences.
 use super::desk::{
-    COUNTS, Desk, KEPT, LEFT, LISTED, RIGHT, STATE, at, copy, fill, minus, narrow, put, same, sum,
+    COUNTS, Desk, KEPT, LEFT, LISTED, RIGHT, STATE, at, copy, fill, minus, narrow, print,
+    print_decimal, put, same, sum,
 };
 use super::{calls, listing};
-use libc::STDOUT_FILENO;
 
 // Where COUNTS has what. Calls by reason stand at 0 to 15.
 const CALLS: usize = 16;
@@ -45,32 +45,33 @@ pub(super) fn begin_family(desk: &mut Desk, start: usize, end: usize) {
     put(desk, COUNTS, DIFFERENCES, 0);
 }
 
-fn say(key: &[u8], number: u64) {
-    io::write_all(STDOUT_FILENO, key);
-    io::print_decimal(STDOUT_FILENO, number);
+fn say(desk: &mut Desk, key: &[u8], number: u64) {
+    print(desk, key);
+    print_decimal(desk, number);
 }
 
-fn say_count(desk: &Desk, key: &[u8], i: usize) {
-    say(key, at(desk, COUNTS, i) as u64);
+fn say_count(desk: &mut Desk, key: &[u8], i: usize) {
+    let counted = at(desk, COUNTS, i);
+    say(desk, key, counted as u64);
 }
 
-fn end_line() {
-    io::write_all(STDOUT_FILENO, b"\n");
+fn end_line(desk: &mut Desk) {
+    print(desk, b"\n");
 }
 
-fn say_answer(key: &[u8], told: u64) {
-    say(key, told % 256);
-    say(b" at ", told / 256);
+fn say_answer(desk: &mut Desk, key: &[u8], told: u64) {
+    say(desk, key, told % 256);
+    say(desk, b" at ", told / 256);
 }
 
 // A family's first five differences are told.
-fn tell_difference(desk: &Desk, told: u64, expected: u64) {
+fn tell_difference(desk: &mut Desk, told: u64, expected: u64) {
     if at(desk, COUNTS, DIFFERENCES) < 6 {
         say_count(desk, b"difference, in the family below: line=", LINE_NUMBER);
         say_count(desk, b" case=", CASE);
-        say_answer(b" told=", told);
-        say_answer(b" expected=", expected);
-        end_line();
+        say_answer(desk, b" told=", told);
+        say_answer(desk, b" expected=", expected);
+        end_line(desk);
     }
 }
 
@@ -156,49 +157,47 @@ pub(super) fn check_text(desk: &mut Desk, n: usize) {
 }
 
 // What stands on the page from start to end.
-fn say_part(page: &[u8], start: usize, end: usize) {
+fn say_part(desk: &mut Desk, page: &[u8], start: usize, end: usize) {
     if start <= end {
         if end <= page.len() {
-            io::write_all(STDOUT_FILENO, &page[start..end]);
+            print(desk, &page[start..end]);
         }
     }
 }
 
 // A family with no case is not told, so neither is the time before the first.
-pub(super) fn end_family(desk: &Desk, page: &[u8]) {
+pub(super) fn end_family(desk: &mut Desk, page: &[u8]) {
     if at(desk, COUNTS, CALLS) == 0 {
         return;
     }
-    io::write_all(STDOUT_FILENO, b"family=");
-    say_part(
-        page,
-        at(desk, COUNTS, NAME_START) as usize,
-        at(desk, COUNTS, NAME_END) as usize,
-    );
+    print(desk, b"family=");
+    let start = at(desk, COUNTS, NAME_START) as usize;
+    let end = at(desk, COUNTS, NAME_END) as usize;
+    say_part(desk, page, start, end);
     say_count(desk, b" calls=", CALLS);
     say_count(desk, b" differences=", DIFFERENCES);
-    end_line();
+    end_line(desk);
 }
 
-fn tell_reason(desk: &Desk, reason: usize) {
-    say(b"reason=", reason as u64);
+fn tell_reason(desk: &mut Desk, reason: usize) {
+    say(desk, b"reason=", reason as u64);
     say_count(desk, b" calls=", reason);
-    end_line();
+    end_line(desk);
 }
 
 // Those of the reader and the lister.
-pub(super) fn tell_reasons(desk: &Desk) {
+pub(super) fn tell_reasons(desk: &mut Desk) {
     for reason in 0..12usize {
         tell_reason(desk, reason);
     }
     tell_reason(desk, 14);
 }
 
-pub(super) fn tell_end(desk: &Desk) {
+pub(super) fn tell_end(desk: &mut Desk) {
     if at(desk, COUNTS, ALL_DIFFERENCES) == 0 {
-        io::write_all(STDOUT_FILENO, b"all as expected\n");
+        print(desk, b"all as expected\n");
     } else {
         say_count(desk, b"NOT as expected: differences=", ALL_DIFFERENCES);
-        end_line();
+        end_line(desk);
     }
 }

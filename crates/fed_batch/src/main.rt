@@ -2,8 +2,9 @@
 // empty state and the grants that the batches of bench/run need. bench/engine counts its instructions.
 #![tactic(auto)]
 
-use libc::{STDIN_FILENO, STDOUT_FILENO};
 use meaning::Answer;
+use std::io;
+use std::io::Read;
 
 // Role, start, length, reach and memory: a target at 00100000h, and a scaler's memory at 00200000h and at 00300000h.
 const GRANTS: [u8; 60] = *b"\
@@ -24,16 +25,12 @@ fn feed(batch: &[u8], grants: &[u8]) -> Answer {
     engine::close(engine).answer
 }
 
-fn print(answer: Answer) {
-    io::write_all(STDOUT_FILENO, b"reason=");
-    io::print_decimal(STDOUT_FILENO, answer.reason as u64);
-    io::write_all(STDOUT_FILENO, b" place=");
-    io::print_decimal(STDOUT_FILENO, answer.place as u64);
-    io::write_all(STDOUT_FILENO, b"\n");
+fn print(rt: HostRuntime, answer: Answer) -> io::Result<()> {
+    println!(rt; "reason={} place={}", answer.reason, answer.place)
 }
 
-fn main() {
-    let mut bytes = io::large_buffer();
-    let n = io::read_full(STDIN_FILENO, &mut bytes);
-    print(feed(&bytes[..n], &GRANTS));
+fn main(rt: HostRuntime) -> io::Result<()> {
+    let mut bytes = Vec::new(rt.alloc());
+    rt.stdin().read_to_end(&mut bytes)?;
+    print(rt, feed(&bytes, &GRANTS))
 }

@@ -1,7 +1,8 @@
 // Lists the state that a batch on standard input leaves from the empty state, or says why the batch comes back.
 #![tactic(auto)]
 
-ghost use Rattle.std.specs.Prelude.{◌≡◌, ◌+◌, ◌≤◌, ◌<◌, length};
+ghost use Rattle.std.specs.Prelude.{◌≡◌, ◌+◌, ◌≤◌, ◌<◌, length, take, IfOk, IfSome, OnOk, vec_capacity};
+ghost use Rattle.std.specs.Io.KnownBytes.{Appends};
 ghost use Rattle.laws.specs.Lists.{over};
 ghost use Rattle.meaning.specs.Answers.{number_of};
 ghost use Rattle.meaning.specs.Exported.{most_bytes, exported_read, exported_read_leaves};
@@ -10,6 +11,9 @@ ghost use Rattle.list_batch.specs.Put.{Put};
 ghost use Rattle.list_batch.specs.Printed.{digit_for, decimal5, refusal_line, k1_grant, printed};
 
 use meaning::{MOST_BYTES, MOST_LISTED, STATE_WORDS};
+use std::alloc::{AllocError, Global};
+use std::io;
+use std::io::{Read, Write};
 
 // The grant of K1: K1 "role 1, start 00100000h, length 00080000h, reach 00080000h".
 const K1_GRANT: [u8; 20] = *b"\
@@ -26,11 +30,12 @@ const INPUT_ROOM: usize = MOST_BYTES + 1;
 // As many bytes as the longest listing has; a refusal has fewer.
 const TEXT_ROOM: usize = MOST_LISTED;
 
-// Where the array is made, so that no proof but this one has to look at 65,537 zeros.
-fn input_buffer() -> [u8; INPUT_ROOM]
-    ensures whole { most_bytes + 1 ≡ length result }
+// Room for all that is read.
+fn input_buffer(alloc: Global) -> Result<Vec<u8>, AllocError>
+    ensures whole { IfOk result (λ input. most_bytes + 1 ≡ vec_capacity input) }
+    ensures empty { IfOk result (λ input. 0 ≡ length input.items) }
 {
-    [0; INPUT_ROOM]
+    Vec::with_capacity(alloc, INPUT_ROOM)
 }
 
 // Here and below the answer is where the text ends.
@@ -107,21 +112,28 @@ fn report(batch: &[u8], out: &mut [u8]) -> usize
     (listed / 256) as usize
 }
 
-// Only a read that answers 0 is the end of the input: a batch that was not read whole is not listed.
-fn main() {
-    let mut input = input_buffer();
-    let got = io::read_full(libc::STDIN_FILENO, &mut input);
-    let mut more = [0u8; 1];
-    if got < INPUT_ROOM {
-        if libc::read(libc::STDIN_FILENO, &mut more) != 0 {
-            io::write_all(
-                libc::STDERR_FILENO,
-                b"list_batch: standard input cannot be read to its end\n",
-            );
-            return;
-        }
-    }
+// What stands on an input, read to its end or up to one byte more than a batch may have.
+fn read_input<R: Read + Drop>(alloc: Global, from: R) -> io::Result<Vec<u8>>
+    ensures bytes { IfOk result (λ input. IfSome (R.remaining from) (λ all. input.items ≡ take (most_bytes + 1) all)) }
+{
+    let mut input = input_buffer(alloc)?;
+    from.take(INPUT_ROOM as u64).read_to_end(&mut input)?;
+    Ok(input)
+}
+
+// Writes what is printed of a batch.
+fn write_report<W: Write>(batch: &[u8], to: &mut W) -> io::Result<()>
+    ensures text { OnOk result (Appends (W.contents to.old) (W.contents to.new) (printed batch.now)) }
+{
     let mut text = [0u8; TEXT_ROOM];
-    let count = report(&input[..got], &mut text);
-    io::write_all(libc::STDOUT_FILENO, &text[..count]);
+    let count = report(batch, &mut text);
+    to.write_all(&text[..count])
+}
+
+// A batch that was not read whole is not listed.
+fn main(rt: HostRuntime) -> io::Result<()> {
+    match read_input(rt.alloc(), rt.stdin()) {
+        Ok(batch) => write_report(&batch, &mut rt.stdout()),
+        Err(_) => eprintln!(rt; "list_batch: standard input cannot be read to its end"),
+    }
 }

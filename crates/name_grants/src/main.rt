@@ -2,7 +2,8 @@
 // batch leaves, and the listing of the registers; or why the batch comes back.
 #![tactic(auto)]
 
-ghost use Rattle.std.specs.Prelude.{◌≡◌, ◌+◌, ◌*◌, ◌≤◌, T, length, take, drop};
+ghost use Rattle.std.specs.Prelude.{◌≡◌, ◌+◌, ◌*◌, ◌≤◌, T, length, take, drop, IfOk, IfSome, OnOk, vec_capacity};
+ghost use Rattle.std.specs.Io.KnownBytes.{Appends};
 ghost use Rattle.laws.specs.Lists.{over};
 ghost use Rattle.meaning.specs.Words.{words_of};
 ghost use Rattle.meaning.specs.Registers.{cells};
@@ -12,6 +13,9 @@ ghost use Rattle.meaning.specs.Lister.{most_listed};
 ghost use Rattle.name_grants.specs.Named.{grants_in, batch_in, grant_places, told, named, most_named};
 
 use meaning::{CELLS, Cell, MOST_BYTES, MOST_LISTED, STATE_WORDS};
+use std::alloc::{AllocError, Global};
+use std::io;
+use std::io::{Read, Write};
 
 // The bytes of a word.
 const WORD: usize = 4;
@@ -22,11 +26,12 @@ const INPUT_ROOM: usize = WORD + 2 * (MOST_BYTES + 1);
 // The answer, a byte for each cell, and the longest listing.
 const OUTPUT_ROOM: usize = WORD + CELLS + MOST_LISTED;
 
-// Where the array is made, so that no proof but this one has to look at 131,078 zeros.
-fn input_buffer() -> [u8; INPUT_ROOM]
-    ensures whole { 4 + 2 * (most_bytes + 1) ≡ length result }
+// Room for all that is read.
+fn input_buffer(alloc: Global) -> Result<Vec<u8>, AllocError>
+    ensures whole { IfOk result (λ input. 4 + 2 * (most_bytes + 1) ≡ vec_capacity input) }
+    ensures empty { IfOk result (λ input. 0 ≡ length input.items) }
 {
-    [0; INPUT_ROOM]
+    Vec::with_capacity(alloc, INPUT_ROOM)
 }
 
 // The place of the query's answer for each marked cell. Here and below the answer is how many bytes are put.
@@ -105,21 +110,28 @@ fn report_input(input: &[u8], out: &mut [u8]) -> usize
     report(&input[WORD..end], &input[end..], out)
 }
 
-// Only a read that answers 0 is the end of the input: a batch that was not read whole is not taken for one.
-fn main() {
-    let mut input = input_buffer();
-    let got = io::read_full(libc::STDIN_FILENO, &mut input);
-    let mut more = [0u8; 1];
-    if got < INPUT_ROOM {
-        if libc::read(libc::STDIN_FILENO, &mut more) != 0 {
-            io::write_all(
-                libc::STDERR_FILENO,
-                b"name_grants: standard input cannot be read to its end\n",
-            );
-            return;
-        }
-    }
+// What stands on an input, read to its end or up to one byte more than grants and a batch may have.
+fn read_input<R: Read + Drop>(alloc: Global, from: R) -> io::Result<Vec<u8>>
+    ensures bytes { IfOk result (λ input. IfSome (R.remaining from) (λ all. input.items ≡ take (4 + 2 * (most_bytes + 1)) all)) }
+{
+    let mut input = input_buffer(alloc)?;
+    from.take(INPUT_ROOM as u64).read_to_end(&mut input)?;
+    Ok(input)
+}
+
+// Writes what there is to write of the input.
+fn write_report<W: Write>(input: &[u8], to: &mut W) -> io::Result<()>
+    ensures bytes { OnOk result (Appends (W.contents to.old) (W.contents to.new) (named (grants_in input.now) (batch_in input.now))) }
+{
     let mut out = [0u8; OUTPUT_ROOM];
-    let count = report_input(&input[..got], &mut out);
-    io::write_all(libc::STDOUT_FILENO, &out[..count]);
+    let count = report_input(input, &mut out);
+    to.write_all(&out[..count])
+}
+
+// A batch that was not read whole is not taken for one.
+fn main(rt: HostRuntime) -> io::Result<()> {
+    match read_input(rt.alloc(), rt.stdin()) {
+        Ok(input) => write_report(&input, &mut rt.stdout()),
+        Err(_) => eprintln!(rt; "name_grants: standard input cannot be read to its end"),
+    }
 }

@@ -1,9 +1,18 @@
-// The desk: every list that the program works on, side by side; and the dice.
+// The desk: every list that the program works on, side by side, and where its lines are printed; and the dice.
 //
 // A list is words. Its length stands in its last word and counts bytes, so that some can be lent past the last whole word.
 // Every function takes any list and any index: past the room nothing is read and nothing is stored.
 
-pub(super) type Desk = [[u32; 352]; 7];
+use std::io;
+use std::io::Write;
+
+#[derive(Drop)]
+pub(super) struct Desk {
+    pub(super) lists: [[u32; 352]; 7],
+    pub(super) rt: HostRuntime,
+    // Whether all could be printed so far.
+    pub(super) printed: io::Result<()>,
+}
 
 // What is counted (tally says where): of the whole run, and of the family at work.
 pub(super) const COUNTS: usize = 0;
@@ -28,7 +37,7 @@ const LENGTH: usize = 351;
 pub(super) fn at(desk: &Desk, list: usize, i: usize) -> u32 {
     if list < 7 {
         if i < 352 {
-            return desk[list][i];
+            return desk.lists[list][i];
         }
     }
     0
@@ -37,7 +46,7 @@ pub(super) fn at(desk: &Desk, list: usize, i: usize) -> u32 {
 pub(super) fn put(desk: &mut Desk, list: usize, i: usize, word: u32) {
     if list < 7 {
         if i < 352 {
-            desk[list][i] = word;
+            desk.lists[list][i] = word;
         }
     }
 }
@@ -62,7 +71,7 @@ pub(super) fn cut(desk: &mut Desk, list: usize, n: usize) {
 // Every word becomes 0, and the list n bytes long.
 pub(super) fn clear(desk: &mut Desk, list: usize, n: usize) {
     if list < 7 {
-        desk[list] = [0u32; 352];
+        desk.lists[list] = [0u32; 352];
     }
     cut(desk, list, n);
 }
@@ -84,4 +93,17 @@ pub(super) fn dice(seed: u32, throws: u32) -> u32 {
     let a = scrambled(sum(sum(seed, throws), 0x9e3779b9));
     let b = scrambled(sum(a, a << 7));
     scrambled(sum(b, b << 11))
+}
+
+// Prints bytes, unless some before them could not be printed.
+pub(super) fn print(desk: &mut Desk, text: &[u8]) {
+    if desk.printed.is_ok() {
+        desk.printed = desk.rt.stdout().write_all(text);
+    }
+}
+
+pub(super) fn print_decimal(desk: &mut Desk, number: u64) {
+    if desk.printed.is_ok() {
+        desk.printed = print!(desk.rt; "{number}");
+    }
 }

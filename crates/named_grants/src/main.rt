@@ -12,10 +12,19 @@ mod page;
 mod second;
 mod tally;
 
-fn main() {
-    let mut desk = [[0u32; 352]; 7];
-    let mut bytes = io::large_buffer();
-    let n = io::read_full(0, &mut bytes);
-    page::run_page(&mut desk, &bytes[..n]);
-    tally::tell_end(&desk);
+use desk::Desk;
+use std::io;
+use std::io::Read;
+
+fn main(rt: HostRuntime) -> io::Result<()> {
+    let mut desk = Desk {
+        lists: [[0u32; 352]; 7],
+        rt,
+        printed: Ok(()),
+    };
+    let mut page = Vec::new(rt.alloc());
+    rt.stdin().read_to_end(&mut page)?;
+    page::run_page(&mut desk, &page);
+    tally::tell_end(&mut desk);
+    desk.printed
 }

@@ -3,11 +3,10 @@
 // of the whole run to tell are #. A space stands before each number, which is decimal, or hex behind 0x. All other lines
 // are passed over.
 use super::desk::{
-    COUNTS, Desk, FAMILY, GRANTS, LOCATION, NUMBERS, at, clear, len, plus, push, put, sum,
+    COUNTS, Desk, FAMILY, GRANTS, LOCATION, NUMBERS, at, clear, len, plus, print, push, put, sum,
 };
 use super::families::{ask, go_through};
 use super::tally::{hold, tell_counts};
-use libc::STDOUT_FILENO;
 
 // What a digit counts, and 16 for any other byte.
 fn digit(byte: u8) -> u32 {
@@ -89,10 +88,10 @@ fn run_line(desk: &mut Desk, what: u8) {
     }
 }
 
-fn say_part(page: &[u8], start: usize, end: usize) {
+fn say_part(desk: &mut Desk, page: &[u8], start: usize, end: usize) {
     if start <= end {
         if end <= page.len() {
-            io::write_all(STDOUT_FILENO, &page[start..end]);
+            print(desk, &page[start..end]);
         }
     }
 }
@@ -100,7 +99,7 @@ fn say_part(page: &[u8], start: usize, end: usize) {
 fn take_line(desk: &mut Desk, page: &[u8], start: usize, end: usize) {
     let what = byte_in(page, start);
     if what == b':' || what == b'=' {
-        say_part(page, plus(start, 1), end);
+        say_part(desk, page, plus(start, 1), end);
     }
     let list = match what {
         b'g' => GRANTS,

@@ -1,9 +1,8 @@
 // What is counted and told: calls of the family at work by their answers, differences with a line for each of the first,
 // and over the whole run how often each grant was told.
-use super::desk::{COUNTS, Desk, FAMILY, at, plus, put, sum};
+use super::desk::{COUNTS, Desk, FAMILY, at, plus, print, print_decimal, put, sum};
 use super::second::{lowest, what_stands};
 use super::{calls, second};
-use libc::STDOUT_FILENO;
 
 // Where FAMILY has what: calls, those answered 1, those answered 2, those that tell a grant, and of these the ones where
 // another grant admits the address too.
@@ -24,22 +23,23 @@ fn add(desk: &mut Desk, list: usize, i: usize, n: u32) {
     put(desk, list, i, sum(counted, n));
 }
 
-fn say(key: &[u8], number: u64) {
-    io::write_all(STDOUT_FILENO, key);
-    io::print_decimal(STDOUT_FILENO, number);
+fn say(desk: &mut Desk, key: &[u8], number: u64) {
+    print(desk, key);
+    print_decimal(desk, number);
 }
 
-fn end_line() {
-    io::write_all(STDOUT_FILENO, b"\n");
+fn end_line(desk: &mut Desk) {
+    print(desk, b"\n");
 }
 
 // The first five differences are told: in the family whose line comes next, the call, and the two answers.
-fn tell_difference(desk: &Desk, first: u64, expected: u64) {
+fn tell_difference(desk: &mut Desk, first: u64, expected: u64) {
     if at(desk, COUNTS, DIFFERENCES) < 6 {
-        say(b"difference: call=", at(desk, FAMILY, CALLS) as u64);
-        say(b" first=", first);
-        say(b" expected=", expected);
-        end_line();
+        let call = at(desk, FAMILY, CALLS);
+        say(desk, b"difference: call=", call as u64);
+        say(desk, b" first=", first);
+        say(desk, b" expected=", expected);
+        end_line(desk);
     }
 }
 
@@ -81,19 +81,20 @@ pub(super) fn check(desk: &mut Desk, cell: usize) -> u64 {
 }
 
 // So many counts of a list.
-pub(super) fn tell_counts(desk: &Desk, list: usize, first: usize, n: usize) {
+pub(super) fn tell_counts(desk: &mut Desk, list: usize, first: usize, n: usize) {
     for i in 0..n {
-        say(b" ", at(desk, list, plus(first, i)) as u64);
+        let counted = at(desk, list, plus(first, i));
+        say(desk, b" ", counted as u64);
     }
-    end_line();
+    end_line(desk);
 }
 
-pub(super) fn tell_end(desk: &Desk) {
+pub(super) fn tell_end(desk: &mut Desk) {
     let differences = at(desk, COUNTS, DIFFERENCES) as u64;
     if differences == 0 {
-        say(b"all as expected: differences=", differences);
+        say(desk, b"all as expected: differences=", differences);
     } else {
-        say(b"NOT as expected: differences=", differences);
+        say(desk, b"NOT as expected: differences=", differences);
     }
-    end_line();
+    end_line(desk);
 }

@@ -2,12 +2,16 @@
 // as the C calls give them.
 #![tactic(auto)]
 
-ghost use Rattle.std.specs.Prelude.{◌≡◌, ◌+◌, ◌≤◌, length};
+ghost use Rattle.std.specs.Prelude.{◌≡◌, ◌+◌, ◌≤◌, length, take, IfOk, IfSome, OnOk, vec_capacity};
+ghost use Rattle.std.specs.Io.KnownBytes.{Appends};
 ghost use Rattle.laws.specs.Lists.{over};
 ghost use Rattle.meaning.specs.Exported.{most_bytes};
 ghost use Rattle.restore_listing.specs.Restored.{number_bytes, rewritten, restored, most_rewritten, most_restored};
 
 use meaning::{MOST_BYTES, MOST_WRITTEN, STATE_WORDS};
+use std::alloc::{AllocError, Global};
+use std::io;
+use std::io::{Read, Write};
 
 // The grant of K1: K1 "role 1, start 00100000h, length 00080000h, reach 00080000h".
 const K1_GRANT: [u8; 20] = *b"\
@@ -26,11 +30,12 @@ const NUMBER: usize = 8;
 
 const OUTPUT_ROOM: usize = 2 * NUMBER + 4 * MOST_WRITTEN;
 
-// Where the array is made, so that no proof but this one has to look at 65,537 zeros.
-fn input_buffer() -> [u8; INPUT_ROOM]
-    ensures whole { most_bytes + 1 ≡ length result }
+// Room for all that is read.
+fn input_buffer(alloc: Global) -> Result<Vec<u8>, AllocError>
+    ensures whole { IfOk result (λ input. most_bytes + 1 ≡ vec_capacity input) }
+    ensures empty { IfOk result (λ input. 0 ≡ length input.items) }
 {
-    [0; INPUT_ROOM]
+    Vec::with_capacity(alloc, INPUT_ROOM)
 }
 
 // Puts a number in front.
@@ -77,21 +82,28 @@ fn report(text: &[u8], out: &mut [u8]) -> usize
     NUMBER + put_batch(&state, &mut out[NUMBER..])
 }
 
-// Only a read that answers 0 is the end of the input: a text that was not read whole is not taken for one.
-fn main() {
-    let mut input = input_buffer();
-    let got = io::read_full(libc::STDIN_FILENO, &mut input);
-    let mut more = [0u8; 1];
-    if got < INPUT_ROOM {
-        if libc::read(libc::STDIN_FILENO, &mut more) != 0 {
-            io::write_all(
-                libc::STDERR_FILENO,
-                b"restore_listing: standard input cannot be read to its end\n",
-            );
-            return;
-        }
-    }
+// What stands on an input, read to its end or up to one byte more than a text may have.
+fn read_input<R: Read + Drop>(alloc: Global, from: R) -> io::Result<Vec<u8>>
+    ensures bytes { IfOk result (λ input. IfSome (R.remaining from) (λ all. input.items ≡ take (most_bytes + 1) all)) }
+{
+    let mut input = input_buffer(alloc)?;
+    from.take(INPUT_ROOM as u64).read_to_end(&mut input)?;
+    Ok(input)
+}
+
+// Writes what there is to write of a text.
+fn write_report<W: Write>(text: &[u8], to: &mut W) -> io::Result<()>
+    ensures bytes { OnOk result (Appends (W.contents to.old) (W.contents to.new) (restored text.now)) }
+{
     let mut out = [0u8; OUTPUT_ROOM];
-    let count = report(&input[..got], &mut out);
-    io::write_all(libc::STDOUT_FILENO, &out[..count]);
+    let count = report(text, &mut out);
+    to.write_all(&out[..count])
+}
+
+// A text that was not read whole is not taken for one.
+fn main(rt: HostRuntime) -> io::Result<()> {
+    match read_input(rt.alloc(), rt.stdin()) {
+        Ok(text) => write_report(&text, &mut rt.stdout()),
+        Err(_) => eprintln!(rt; "restore_listing: standard input cannot be read to its end"),
+    }
 }
