@@ -1,4 +1,4 @@
--- Whether a cell of a row may be written, from its value. Of a well_formed state an unmarked value is 0; so where the row takes 0, the mark
+-- Whether a cell of a row may be written, from its value. Of a well-formed state an unmarked value is 0; so where the row takes 0, the mark
 -- plays no part.
 -- Assumes nothing.
 use mathlib.Core.Path.{◌≡◌, refl, sym, ◌∙◌}
@@ -22,7 +22,7 @@ use Rattle.cells.specs.declared.Row.{Row}
 use Rattle.cells.specs.Rows.{takes_zero, width_of, vacant_in}
 use Rattle.cells.proofs.Known.{Known}
 
--- a well_formed state is whole
+-- a well-formed state is whole
 pub whole : (st : List ℕ) → T (well_formed st) → length st ≡ state_words
 whole st f = ((formed_iff st).0 f).size
 

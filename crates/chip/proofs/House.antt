@@ -255,7 +255,7 @@ module _ (grants : List ℕ) (t f s : ℕ) (l : T (grants_fine grants)) (h : Hou
   -- ---- a program that starts from it
 
   module _ (batches : List (List ℕ)) (words : All (All Word) batches) (all : AllAccepted grants (house t f s) batches) where
-    -- every state that it reaches is well_formed, marks every cell, and is written under its grants
+    -- every state that it reaches is well-formed, marks every cell, and is written under its grants
     pub house_whole : Whole grants (left_by grants (house t f s) batches)
     house_whole =
         let st = left_by grants (house t f s) batches in

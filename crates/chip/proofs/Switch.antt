@@ -314,7 +314,7 @@ target_in_whose_turn chip before t n all p full =
     let same = same_pair_of (obeys was (written st)) st (λ c l k. over.marked c (omega arith) (full c (omega arith))) in
     target_after was st t.grants most_written p.written m same t.batches p.accepted) chip before n
 
--- a well_formed chip stays so
+-- a well-formed chip stays so
 obeys_formed : (grants st chip : List ℕ) (batches : List (List ℕ)) → AllAccepted grants st batches → Formed chip → Formed (obeys_all chip batches)
 unfolding obeys_all obeys
 obeys_formed grants st chip [] a f = f

@@ -83,7 +83,7 @@ module _ (st : List ℕ) where
 
   -- ---- the loops' words, number by number
 
-  -- row k of those from cell c and sub_address a on
+  -- row k of those from cell c and sub-address a on
   abbrev pub row_at : ℕ → ℕ → ℕ → List ℕ
   row_at c a k = parameter_of st (cell (c + k)) (record { 0 = a + k })
 

@@ -17,7 +17,7 @@ words_of_sections st ss = join (packets_among (marked st) st ss)
 unfoldable pub parameter_of : List ℕ → Cell → SubAddress → List ℕ
 parameter_of st c a = if_so (marked st c) (a.0 * 2 ^ 24 + value_at st c) []
 
--- the parameters of n rows from cell c and sub_address a on
+-- the parameters of n rows from cell c and sub-address a on
 unfoldable pub parameters_from : List ℕ → ℕ → ℕ → ℕ → List ℕ
 parameters_from st c a zero = []
 parameters_from st c a (suc n) = parameter_of st (cell c) (record { 0 = a }) ++ parameters_from st (suc c) (suc a) n
@@ -30,7 +30,7 @@ packet_words s ps = join (packet_3d_of s ps)
 unfoldable pub target_words : List ℕ → List ℕ
 target_words st = packet_words (setting_word 0x01 0x00) (parameter_of st (cell 0) (record { 0 = 0x3F }) ++ parameters_from st 1 0x50 3)
 
--- groups of 02 that have so many rows each, from the first one's cell and sub_type on; their sub-addresses begin at `low`. The words of n of
+-- groups of 02 that have so many rows each, from the first one's cell and sub-type on; their sub-addresses begin at `low`. The words of n of
 -- them from number i on
 unfoldable pub series_from : List ℕ → ℕ → ℕ → ℕ → ℕ → ℕ → ℕ → List ℕ
 series_from st first rows low sub i zero = []
@@ -45,6 +45,6 @@ many = 16
 abbrev pub Room : List ℕ → ℕ → List ℕ → Type 0
 Room out at ws = 0 < length ws → at + length ws ≤ length out / 4
 
--- a marked 3D value is 24 bits wide, so that a sub_address fits above it
+-- a marked 3D value is 24 bits wide, so that a sub-address fits above it
 abbrev pub Narrow : List ℕ → Type 0
 Narrow st = (c : ℕ) → c < first_video → 0 < mark_at st (cell c) → value_at st (cell c) < 2 ^ 24

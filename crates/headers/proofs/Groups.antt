@@ -17,7 +17,7 @@ use Rattle.headers.specs.declared.Group.TheVariants.{Target, Stage, Sample, Noth
 use Rattle.headers.specs.Headers.{group_of02, group_of}
 use Rattle.headers.specs.Told.{cell_in, IsGroup, target, stage, sample, Leads, Names}
 
--- ---- what a sub_address names in the three groups
+-- ---- what a sub-address names in the three groups
 
 target_find : (a : SubAddress) → find_3d 0x01 0x00 a ≡ cell_in Target a
 unfolding tree_3d cell_in
@@ -33,7 +33,7 @@ sample_find n a h =
     let e : 36 + 3 * (0x20 + n - 0x20) ≡ 36 + 3 * n = omega arith in
     by_tree 0x02 (0x20 + n) a ∙ rw (lt-leb (0x20 + n) 0x0F (omega arith), le-leb 0x20 (0x20 + n) (omega arith), le-leb (0x20 + n) 0x2F (omega arith), e)
 
--- ---- a setting with nothing but a type and a sub_type
+-- ---- a setting with nothing but a type and a sub-type
 
 type_is : (s t : ℕ) → t < 256 → s % 0x1000000 ≡ t * 0x10000 → (para_adr s ≡ 0) × (para_os s ≡ 0) × (para_type s ≡ t)
 unfolding para_adr para_os para_type
@@ -84,7 +84,7 @@ module _ (s : ℕ) where
       found = λ a. rw ((type_is s 0x02 (omega arith) e).2, u) (sample_find n a h);
     }
 
--- a sub_type of 02
+-- a sub-type of 02
 names_02 : (s : ℕ) → s % 0x1000000 ≡ 0x20000 → (u : ℕ) → para_sub_type s ≡ u → Names s (group_of02 u)
 unfolding group_of02 type_allowed allowed_types some
 names_02 s e u p =
@@ -101,7 +101,7 @@ names_02 s e u p =
       ]
     ]
 
--- no other type, and no other sub_type of 01
+-- no other type, and no other sub-type of 01
 none_allowed : (t u : ℕ) → (t ≡ 0x02 → ⊥) → (t ≡ 0x01 → u ≡ 0x00 → ⊥) → type_allowed t u ≡ false
 unfolding type_allowed allowed_types some
 none_allowed t u n m =

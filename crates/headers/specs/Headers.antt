@@ -50,7 +50,7 @@ header_of h =
     cond (eqb (offset h) offset_3d) (cond (within 2 most_3d (count h)) Setting (Refused bad_count))
     (cond (within 0x2208 0x2210 (offset h)) (overlay_run (video_offset h) (count h)) (scaler_run (video_offset h) (count h)))
 
--- the group of a sub_type of 02
+-- the group of a sub-type of 02
 unfoldable pub group_of02 : ℕ → Group
 group_of02 u = cond (leb u 0x0F) (Stage (cell (4 + 2 * u))) (cond (within 0x20 0x2F u) (Sample (cell (3 * u - 60))) Nothing)
 

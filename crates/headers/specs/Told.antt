@@ -34,7 +34,7 @@ Opens h (Scaler s) = Runs h s.base.0 s.index 7 × rows.Scaler s.base.0 s.role
 
 -- ---- groups
 
--- the cell that a sub_address names in a group
+-- the cell that a sub-address names in a group
 unfoldable pub cell_in : Group → SubAddress → Found
 cell_in Target a = cond (eqb a.0 0x3F) (At (cell 0)) (ranged 0x50 3 1 a.0)
 cell_in (Stage c) a = ranged 0x50 2 c.0 a.0
@@ -47,7 +47,7 @@ pub data IsGroup : Group → Type 0 where
   stage : (n : ℕ) → n < 16 → IsGroup (Stage (cell (4 + 2 * n)))
   sample : (n : ℕ) → n < 16 → IsGroup (Sample (cell (36 + 3 * n)))
 
--- a setting that is allowed names a group of the table, and that group tells where each sub_address leads
+-- a setting that is allowed names a group of the table, and that group tells where each sub-address leads
 pub record Leads (s : ℕ) (G : Group) : Type 0 where
   pub fine : allowed s ≡ true
   pub group : IsGroup G

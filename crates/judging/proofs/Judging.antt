@@ -1,4 +1,4 @@
--- What a sub_address names in a group, and what that makes of a value.
+-- What a sub-address names in a group, and what that makes of a value.
 -- Assumes nothing.
 use mathlib.Core.Path.{◌≡◌, refl, sym, ap, ◌∙◌}
 use Prim.Native.Nat.{ℕ, ◌+◌, ◌*◌, ◌-◌, ◌<◌}
@@ -75,7 +75,7 @@ module _ (a : SubAddress) where
   unfolding cell_in
   target_none n out = rw (ne_eqb a.0 0x3F n) (ranged_none 0x50 3 1 a.0 out)
 
--- the other groups: from a first sub_address on so many name cells, from a first one on
+-- the other groups: from a first sub-address on so many name cells, from a first one on
 pub data Block (b : Cell) : Group → ℕ → ℕ → Type 0 where
   stage_block : Block b (Stage b) 0x50 2
   sample_block : Block b (Sample b) 0x30 3
@@ -91,7 +91,7 @@ block_at {b} {G} {lo} {n} is a k d e h i = block_is is a ∙ ranged_at lo n b.0 
 pub block_none : {b : Cell} {G : Group} {lo n : ℕ} → Block b G lo n → (a : SubAddress) → ((k : ℕ) → k < n → a.0 ≡ lo + k → ⊥) → cell_in G a ≡ Missing
 block_none {b} {G} {lo} {n} is a out = block_is is a ∙ ranged_none lo n b.0 a.0 out
 
--- ---- a value, by what the sub_address names
+-- ---- a value, by what the sub-address names
 
 -- the reason of a cell by its number
 pub of_cell : (g : Terms) (v n k : ℕ) → n ≡ k → {r : ℕ} → r ≡ value_reason g (register_at (cell k)) v → r ≡ value_reason g (register_at (cell n)) v

@@ -1,4 +1,4 @@
--- The state that an accepted batch leaves is well_formed in its bytes, so that it is listed; and what is printed of a refusal.
+-- The state that an accepted batch leaves is well-formed in its bytes, so that it is listed; and what is printed of a refusal.
 -- Assumes nothing.
 use mathlib.Core.Path.{◌≡◌, refl, sym, ap, ◌∙◌}
 use mathlib.Core.Logic.{◌≢◌}

@@ -108,7 +108,7 @@ pub whole : (st : List ℕ) {r : Bool} → r ≡ well_formed st → r ≡ true �
 whole st e t = ((formed_iff st).0 (holds_of (told_true e t))).size
 
 module _ (st out : List ℕ) where
-  -- a state that is not well_formed
+  -- a state that is not well-formed
   pub by_bad_state : well_formed st ≡ false → (answer bad_state 0 ≡ list_answer st (length out)) × (out ≡ list_leaves st out)
   unfolding list_answer list_leaves
   by_bad_state e = rw e (refl, refl)

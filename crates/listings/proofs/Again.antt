@@ -20,7 +20,7 @@ word_again (w ∷ ws) (suc i) l = word_again ws i l
 length_again : (ws : List ℕ) → length (words_of (bytes_of ws)) ≡ length ws
 length_again ws = omega (arith, length_words (bytes_of ws), length_bytes ws)
 
--- a well_formed state is well_formed again: its marks are 0 and 1, and so are words
+-- a well-formed state is well-formed again: its marks are 0 and 1, and so are words
 pub formed_again : (st : List ℕ) → T (well_formed st) → T (well_formed (words_of (bytes_of st)))
 formed_again st t =
     let f = (formed_iff st).0 t in

@@ -76,7 +76,7 @@ sound_takes g st s p =
       leaves = leaves;
     }
 
--- the states that some batch reaches from empty: well_formed, and each marked cell holds what it may
+-- the states that some batch reaches from empty: well-formed, and each marked cell holds what it may
 pub reached_iff : (g : Terms) (st : List ℕ) → Reached g st ↔ (T (well_formed st) × ((c : ℕ) → c < cells → Writable g st (cell c)))
 reached_iff g st = (
   λ r. let s = reached_sound g st r in ((formed_iff st).1 s.formed, λ c l. record { value = s.fine c l; pair = λ e. reached_pair g st r }),

@@ -33,7 +33,7 @@ a_setting : (g : Terms) → Sample g Setting
 unfolding word_reason allowed para_adr para_os para_type para_sub_type allowed_types type_allowed some unless
 a_setting g = record { word = 0x10000; small = lit< tt; taken = refl }
 
--- the sub_address of a group's first register
+-- the sub-address of a group's first register
 first_name : List (Row SubAddress) → ℕ
 first_name [] = 0
 first_name (r ∷ rs) = r.name.0
@@ -52,7 +52,7 @@ fine g t u =
     let p = candidate t u in
     ltb p (2 ^ 32) && eqb (found_reason g 6 (find_3d t u (sub_address p)) (data24 p)) 0
 
--- it may stand under each sub_type of the range
+-- it may stand under each sub-type of the range
 fine_under : Terms → SubTypes → Bool
 fine_under g r = every (fine g r.type) (from r.first (suc r.last - r.first))
 

@@ -21,7 +21,7 @@ use Rattle.meaning.specs.Writer.{if_so}
 use Rattle.meaning.specs.Reasons.{MayHold}
 use Rattle.meaning.proofs.Writing.{chosen_from, AllFine}
 
--- ---- well_formed, as facts
+-- ---- well-formed, as facts
 
 pub record Formed (st : List ℕ) : Type 0 where
   pub size : length st ≡ state_words

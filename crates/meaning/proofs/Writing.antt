@@ -333,7 +333,7 @@ module _ (chosen : Cell → Bool) where
     unfolding words_for need_for
     need_is_length = sections_length sections
 
-  -- two for each type and sub_type, one for each 3D cell, two for each video cell
+  -- two for each type and sub-type, one for each 3D cell, two for each video cell
   abbrev room_in : Section → ℕ
   room_in (of_3d G) = 2 + length G.rows
   room_in (of_video rs) = 2 * length rs

@@ -47,7 +47,7 @@ pub record SubTypes : Type 0 where
   pub first : ℕ
   pub last : ℕ
 
--- B7 "Allowed are type 01h with sub_type 00h, and type 02h with two rows of sub-types: 00h to 0Fh for stages 0 to 15, 20h to 2Fh for
+-- B7 "Allowed are type 01h with sub-type 00h, and type 02h with two rows of sub-types: 00h to 0Fh for stages 0 to 15, 20h to 2Fh for
 -- samples 0 to 15."
 unfoldable pub allowed_types : List SubTypes
 allowed_types =
@@ -56,7 +56,7 @@ allowed_types =
     ∷ record { type = 0x02; first = 0x20; last = 0x2F }
     ∷ []
 
--- a type and a sub_type are among them
+-- a type and a sub-type are among them
 unfoldable pub type_allowed : ℕ → ℕ → Bool
 type_allowed t u = some (λ r. eqb t r.type && within r.first r.last u) allowed_types
 

@@ -198,13 +198,13 @@ pub record Register : Type 0 where
   pub values : ℕ → Bool
   pub holds : ℕ → Content
 
--- a row: its cell, the register's name (a sub_address in its group, or a video offset), and what the register may hold
+-- a row: its cell, the register's name (a sub-address in its group, or a video offset), and what the register may hold
 pub record Row (Name : Type 0) : Type 0 where
   pub cell : Cell
   pub name : Name
   pub register : Register
 
--- the registers of one type and sub_type
+-- the registers of one type and sub-type
 pub record Group : Type 0 where
   pub type : ℕ
   pub sub_type : ℕ
@@ -227,7 +227,7 @@ row_3d c a m f h = record { cell = cell c; name = record { 0 = a }; register = r
 abbrev pub row_video : ℕ → ℕ → ℕ → (ℕ → Bool) → (ℕ → Content) → Row VideoOffset
 row_video c o m f h = record { cell = cell c; name = record { 0 = o }; register = record { width = 32; clear = m; values = f; holds = h } }
 
--- cells 0 to 3: type 01h, sub_type 00h
+-- cells 0 to 3: type 01h, sub-type 00h
 unfoldable pub target_group : Group
 target_group = group 0x01 0x00 (
     -- R1 "0 | 01.00.3F | 800800h"
@@ -241,7 +241,7 @@ target_group = group 0x01 0x00 (
     ∷ []
     )
 
--- stage n: type 02h, sub_type n
+-- stage n: type 02h, sub-type n
 unfoldable pub stage : ℕ → Group
 stage n = group 0x02 (0x00 + n) (
     -- R5 "4+2n, 5+2n | 02.0n.50, 02.0n.51 | FF0000h | any"
@@ -326,7 +326,7 @@ unfoldable pub find : {Name : Type 0} → (Name → Bool) → List (Row Name) �
 find is [] = Missing
 find is (r ∷ rs) = let more = find is rs in cond (is r.name) (At r.cell) more
 
--- the same among the rows of the group of a type and sub_type
+-- the same among the rows of the group of a type and sub-type
 unfoldable pub find_among : ℕ → ℕ → SubAddress → List Section → Found
 find_among t u a [] = Missing
 find_among t u a (of_3d g ∷ ss) =

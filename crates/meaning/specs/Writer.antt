@@ -25,7 +25,7 @@ use Rattle.meaning.specs.Reader.{value_reason}
 abbrev pub header_word : ℕ → ℕ → ℕ
 header_word n o = n * 2 ^ 16 + o
 
--- the setting of a type and sub_type, as B5 has it; HParaAdr and HParaOS are 0
+-- the setting of a type and sub-type, as B5 has it; HParaAdr and HParaOS are 0
 abbrev pub setting_word : ℕ → ℕ → ℕ
 setting_word t u = u * 2 ^ 24 + t * 2 ^ 16
 

@@ -1,4 +1,4 @@
--- The state that an accepted batch leaves is well_formed in its bytes.
+-- The state that an accepted batch leaves is well-formed in its bytes.
 -- Assumes nothing.
 use mathlib.Core.Path.{◌≡◌}
 use mathlib.Core.List.{List}

@@ -26,7 +26,7 @@ pub record Ignores (batch grants st other : List ℕ) : Type 0 where
   pub pair : SamePair st other → read_answer batch grants st ≡ read_answer batch grants other
   pub unwritten : ¬ T (wrote_pair (writes_of batch)) → read_answer batch grants st ≡ read_answer batch grants other
 
--- the call on a well_formed state: by the grants' test, by whether the words are accepted, and by the pair
+-- the call on a well-formed state: by the grants' test, by whether the words are accepted, and by the pair
 abbrev call : Bool → Bool → Answer → Bool → Answer
 call b z a k = provided b 2 (cond z (record { reason = unless k 14 0; place = a.place }) a)
 

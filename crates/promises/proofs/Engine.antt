@@ -100,7 +100,7 @@ module _ (st grants : List ℕ) where
             },
       )
 
-  -- ==== Where opening answers 0: the state is well_formed, and the grant list keeps its rules
+  -- ==== Where opening answers 0: the state is well-formed, and the grant list keeps its rules
 
   module _ (s : T (well_formed sw)) (l : T (grants_fine gs)) where
     answers_0 : (engine_answer sw gs opening).reason ≡ 0

@@ -128,7 +128,7 @@ module _ (batch grants st : List ℕ) (a : Answer) (left : List ℕ) (read : Rea
         → All (λ w. (i ≢ w.cell.0) × (i ≢ cells + w.cell.0)) (all_writes c.packets) → get_or (words_of left) i 0 ≡ get_or sw i 0
     else_as_before e c i a = rw (left_as_cut e c) (untouched i sw (all_writes c.packets) a)
 
-    -- a state that is well_formed stays so, accepted or refused
+    -- a state that is well-formed stays so, accepted or refused
     pub stays_well_formed : T (well_formed sw) → T (well_formed (words_of left))
     stays_well_formed f = rw left_as_words ((formed_iff (read_leaves ws gs sw)).1 (leaves_formed ws gs sw ((formed_iff sw).0 f)))
 
@@ -219,7 +219,7 @@ module _ (st grants out : List ℕ) (a : Answer) (left : List ℕ) (write : Writ
   pub refused_unwritten : a.reason ≢ 0 → left ≡ out
   refused_unwritten n = write.1 ∙ settle_refused a _ out n
 
--- the states that some batch reaches from empty: well_formed, each marked cell holds what it may, and the pair is fine
+-- the states that some batch reaches from empty: well-formed, each marked cell holds what it may, and the pair is fine
 pub reached_exactly : (g : Terms) (st : List ℕ) → Reached g st ↔ (T (well_formed st) × ((c : ℕ) → c < cells → Writable g st (cell c)))
 reached_exactly = reached_iff
 

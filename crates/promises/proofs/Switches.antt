@@ -147,7 +147,7 @@ module _ (grants : List ℕ) (t f s : ℕ) (l : T (grants_fine (words_of grants)
   same : words_of (bytes_of (house t f s)) ≡ house t f s
   same = words_bytes (house t f s) (the_house.house_words (words_of grants) t f s l h)
 
-  -- every state that a program reaches from it is well_formed, marks every cell, and is taken by the writer under the program's grants: a
+  -- every state that a program reaches from it is well-formed, marks every cell, and is taken by the writer under the program's grants: a
   -- change to that program leaves nothing of another, whatever was on the chip
   pub house_program : (batches : List (List ℕ)) (end : List ℕ) → Accepting grants (bytes_of (house t f s)) batches end → Whole (words_of grants) (words_of end)
   house_program batches end accepted =

@@ -31,7 +31,7 @@ use Rattle.bodies.specs.Passes.{answer_of}
 use Rattle.packets.specs.Packets.{packets_from}
 use Rattle.packets.proofs.Packets.{answered, wrote, same_size}
 
--- a well_formed state is whole
+-- a well-formed state is whole
 pub whole : (st : List ℕ) → well_formed st ≡ true → length st ≡ state_words
 unfolding well_formed
 whole st e = eqb_yes (and_yes (eqb (length st) state_words) _ (holds_of e)).0

@@ -1,4 +1,4 @@
--- The lookup by type, sub_type and sub_address as a tree of tests: the table's groups, one law for each row of them.
+-- The lookup by type, sub-type and sub-address as a tree of tests: the table's groups, one law for each row of them.
 -- Assumes nothing.
 use mathlib.Core.Path.{◌≡◌, refl, sym, ap, ◌∙◌}
 use mathlib.Core.Bool.{Bool, true, false, ◌&&◌, cond}
@@ -17,11 +17,11 @@ use Rattle.meaning.specs.declared.Found.TheVariants.{At, Missing}
 use Rattle.registers.specs.Names.{ranged}
 use Rattle.meaning.specs.Registers.{cell, Row, Group, Section, of_3d, target_group, stage, sample, stage_section, sample_section, sections_video, sections, find, find_among, find_3d}
 
--- the cell of a sub_address among rows
+-- the cell of a sub-address among rows
 abbrev pub among : SubAddress → List (Row SubAddress) → Found
 among a rs = find (λ n. eqb a.0 n.0) rs
 
--- the rows of a type and sub_type
+-- the rows of a type and sub-type
 unfoldable pub rows_of : ℕ → ℕ → List (Row SubAddress)
 rows_of t u =
     cond (eqb t 0x01) (cond (eqb u 0x00) target_group.rows [])
@@ -35,7 +35,7 @@ module _ (f : ℕ → Group) (T K : ℕ) (is : (n : ℕ) → ((f n).type ≡ T) 
   abbrev next : ℕ → List Section → Found
   next i rest = cond (eqb t (f i).type && eqb u (f i).sub_type) (among a (f i).rows) (find_among t u a rest)
 
-  -- the one that has the sub_type answers
+  -- the one that has the sub-type answers
   hit : t ≡ T → (j : ℕ) → u ≡ K + j → (i n : ℕ) → i ≤ j → j < i + n → find_among t u a (map at (from i n) ++ ss) ≡ among a (f j).rows
   unfolding find_among from
   hit p j q i zero l h = absurd (omega arith)

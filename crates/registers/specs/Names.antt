@@ -13,11 +13,11 @@ use Rattle.registers.specs.declared.Name.{Name}
 unfoldable pub type_of : Cell → ℕ
 type_of c = cond (leb c.0 3) 0x01 0x02
 
--- its sub_type,
+-- its sub-type,
 unfoldable pub sub_type_of : Cell → ℕ
 sub_type_of c = cond (leb c.0 3) 0x00 (cond (leb c.0 35) ((c.0 - 4) / 2) (0x20 + (c.0 - 36) / 3))
 
--- and its sub_address
+-- and its sub-address
 unfoldable pub address_of : Cell → SubAddress
 address_of c =
     cond (eqb c.0 0) (record { 0 = 0x3F })

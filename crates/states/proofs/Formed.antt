@@ -1,4 +1,4 @@
--- Words gathered by `|` under a test of each, and the two tests that make a state well_formed.
+-- Words gathered by `|` under a test of each, and the two tests that make a state well-formed.
 -- Assumes nothing.
 use Rattle.std.proofs.Common.{◌≡◌, ℕ, zero, suc, ◌+◌, ◌-◌, ◌%◌, ◌^◌, ◌<◌, ◌≤◌, Bool, true, false, ◌&&◌, T, eqb, leb, ◌≢◌, List, [], ◌∷◌, length, sym, refl, ap, ◌∙◌, ap₂, add-zero, zero-add, add-one, arith, leb→le, ne_eqb, le-leb}
 use mathlib.Core.Bool.{and-true, and-false, and_assoc}
@@ -57,7 +57,7 @@ mark_small st n t l = leb→le _ _ (every_from (λ k. leb (mark_at st (cell k)) 
 
 -- ---- the answers
 
--- a state is well_formed exactly if both tests pass
+-- a state is well-formed exactly if both tests pass
 formed_parts : (st : List ℕ) → length st ≡ state_words → well_formed st ≡ (marks_to st cells && clear_to st cells)
 unfolding well_formed cell_formed
 formed_parts st l =

@@ -1,4 +1,4 @@
--- Both registers of a stage have one rule; at any other sub_address no register is named.
+-- Both registers of a stage have one rule; at any other sub-address no register is named.
 -- Assumes nothing.
 use mathlib.Core.Path.{refl, ◌∙◌}
 use native.Mathlib.Omega.{arith}

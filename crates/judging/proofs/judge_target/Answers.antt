@@ -1,4 +1,4 @@
--- Each sub_address of the group has its row, and no other has one.
+-- Each sub-address of the group has its row, and no other has one.
 -- Assumes nothing.
 use mathlib.Core.Path.{refl, ◌∙◌}
 use native.Mathlib.Omega.{arith}

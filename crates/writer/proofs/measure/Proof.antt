@@ -38,7 +38,7 @@ refused-requires c κs = search rules
 returns : tie.Need-returns
 returns c = let t = c.before in refusal c.refused.ensures (refused_state _ _ (told_false t.before.well-formed-2.ensures t.if1.true)) (λ e. omega arith)
 
--- the state is well_formed, and so it is whole
+-- the state is well-formed, and so it is whole
 formed : (c : tie.Else1) → well_formed (words_of c.before.before.before.before.args.state.now) ≡ true
 formed c = told_true c.before.well-formed-2.ensures c.if1.false
 
