@@ -45,7 +45,7 @@ is_mark_lem (suc m) t = zero-lt-suc m
 pub marked_fine : (g : Terms) (st : List ℕ) → AllFine g st → ChosenFine g (marked st) st
 marked_fine g st ok c l t = ok c l (is_mark_lem (mark_at st (cell c)) t)
 
--- ---- lists with `ifSo`
+-- ---- lists with `if_so`
 
 pub so_all {ℓ} : {A : Type ℓ} (P : A → Type 0) (b : Bool) (x : A) (xs : List A) → (T b → P x) → All P xs → All P (if_so b x xs)
 so_all P false x xs h a = a

@@ -25,7 +25,7 @@ one_copied s d i v l e inv = rw (add-one i, e) (sym (ap (sets d i) (drop-cons s 
 pub all_copied : (s d : List ℕ) (i : ℕ) → length s ≤ i → Leaves s d i → d ≡ s
 all_copied s d i l inv = let none : drop i s ≡ [] = drop_of_length-le s l in sym (ap (sets d i) none) ∙ inv
 
--- ---- n words over the front of bytes; a turn of it is `word-stored`
+-- ---- n words over the front of bytes; a turn of it is `word_stored`
 
 pub before_stores : (s b : List ℕ) (n : ℕ) → length s ≡ n → n ≤ length b / 4 → put_words b 0 (slice 0 n s) ≡ over (bytes_of s) b
 before_stores s b n e room = rw (take_all n s (omega arith)) (put_over s b (omega arith))
