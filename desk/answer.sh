@@ -29,7 +29,7 @@ prepare_answer() {
     trap 'exit $FAILED' HUP INT TERM
 }
 
-# Runs a program from standard input into the answer. The program does not tell when it cannot write; cat does.
+# Runs a program from standard input into the answer, by way of cat: where that cannot be kept, it is cat that fails, and not the program.
 run_program() { # NAME
     fresh_program "$1" || exit $FAILED
     prepare_to_run || fail 'an emulator of x86-64 could not be installed'
