@@ -100,7 +100,7 @@ build_in_view() {
         trap stop_progress EXIT
         trap 'exit 1' HUP INT TERM
     else
-        tell "proving and building $crate, which may take some minutes"
+        tell "proving and building $crate, which takes long the first time"
     fi
     (cd "$root/crates/$crate" && "$build") >"$log" 2>&1 </dev/null
     status=$?

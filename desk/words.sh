@@ -25,7 +25,7 @@ Exit status: 0 done, 1 refused, 2 wrong use, 3 a failure: it could not be built
 or run, or its output could not be written. 2 and 3 say why on standard error.
 
 The first time, and after a source has changed, it proves and builds what it
-runs. That takes some minutes and needs rt, Rattle's command.
+runs. That takes long the first time, and needs rt, Rattle's command.
 END
 }
 
