@@ -18,7 +18,10 @@ told : (c : goal.After-in_room-told) → c.in_room-told.result ≡ write_answer 
 told c = c.in_room-told.ensures.answer ∙ rw c.measure-asked.ensures.answer (sym (size_then_write _ _ _))
 
 pub returns-then-told-ne-SUCCESS : goal.returns-then-told-ne-SUCCESS
-returns-then-told-ne-SUCCESS c = record { answer = told (goal.at.returns-then-told-ne-SUCCESS c).After-in_room-told; bytes = sym (settle_refused c.in_room-told.result _ _ c.if-told-ne-SUCCESS.true) }
+returns-then-told-ne-SUCCESS c = record {
+  answer = told (goal.at.returns-then-told-ne-SUCCESS c).After-in_room-told;
+  bytes = sym (settle_refused c.in_room-told.result _ _ c.if-told-ne-SUCCESS.true);
+}
 
 -- with no refusal the size is told, and is not more than the room
 enough : (c : goal.Else-told-ne-SUCCESS) → (c.measure-asked.result.answer.reason ≡ 0) × (c.measure-asked.result.answer.place ≤ length c.args.out.now / 4)
@@ -27,9 +30,20 @@ enough c =
     (d.0, d.1)
 
 pub emit-requires : goal.emit-requires
-emit-requires c = let fits = enough (goal.at.emit-requires c).Else-told-ne-SUCCESS in
-    let told = sized _ _ (sym (ap (λ (a : Answer). a.reason) c.measure-asked.ensures.answer) ∙ fits.0) in
-    let place : c.measure-asked.result.answer.place ≡ _ = ap (λ (a : Answer). a.place) c.measure-asked.ensures.answer ∙ told.2 in record { whole = told.1.formed.size; narrow = sound_narrow _ _ told.1; room = omega (arith, place, fits.1); before_video = c.measure-asked.ensures.before_video fits.0 }
+emit-requires c =
+    let m = c.measure-asked in
+    let fits = enough (goal.at.emit-requires c).Else-told-ne-SUCCESS in
+    let told = sized _ _ (sym (ap (λ (a : Answer). a.reason) m.ensures.answer) ∙ fits.0) in
+    let place : m.result.answer.place ≡ _ = ap (λ (a : Answer). a.place) m.ensures.answer ∙ told.2 in
+    record {
+      whole = told.1.formed.size;
+      narrow = sound_narrow _ _ told.1;
+      room = omega (arith, place, fits.1);
+      before_video = m.ensures.before_video fits.0;
+    }
 
 pub returns : goal.returns
-returns c = record { answer = told (goal.at.returns c).After-in_room-told; bytes = c.emit.ensures.words ∙ sym (settle_done c.in_room-told.result _ _ c.if-told-ne-SUCCESS.false) }
+returns c = record {
+  answer = told (goal.at.returns c).After-in_room-told;
+  bytes = c.emit.ensures.words ∙ sym (settle_done c.in_room-told.result _ _ c.if-told-ne-SUCCESS.false);
+}
