@@ -1,7 +1,7 @@
 -- The search for the lowest bad cell, part by part.
 -- Assumes nothing.
 use mathlib.Core.Path.{◌≡◌, refl, sym, ap, ◌∙◌}
-use mathlib.Core.Bool.{Bool, true, false, not, cond}
+use mathlib.Core.Bool.{Bool, true, false, cond}
 use mathlib.Core.List.{List}
 use Prim.Native.Nat.{ℕ, zero, suc, ◌+◌, ◌*◌, ◌-◌, ◌≤◌, ◌<◌}
 use native.Mathlib.Omega.{arith}
@@ -100,6 +100,18 @@ look {g} {st} {i} {n} {c} k t e left f =
       bad = λ x. stopped here 1 (omega arith) (sym (one_bad g st c (told_false f x))) (omega arith);
       past = λ x. went here 1 (i + suc k) (omega arith) (omega arith) (sym (one_fine g st c (told_true f x))) (omega arith);
     }
+
+-- the same under what is given of the grants
+pub record Asked (Given : Terms → Type 0) (st : List ℕ) (i n k c : ℕ) (fine : Bool) : Type 0 where
+  pub bad : fine ≡ false → (g : Terms) → Given g → c ≡ lowest g st i n
+  pub past : fine ≡ true → (g : Terms) → Given g → Left g st i n (i + suc k)
+
+pub ask : {Given : Terms → Type 0} {st : List ℕ} {i n c : ℕ} {fine : Bool} (k : ℕ) → T (ltb k n) → c ≡ i + k
+    → ((g : Terms) → Given g → Left g st i n (i + k)) → ((g : Terms) → Given g → fine ≡ writable g st (cell c)) → Asked Given st i n k c fine
+ask k t e left f = record {
+  bad = λ x g given. (look k t e (left g given) (f g given)).bad x;
+  past = λ x g given. (look k t e (left g given) (f g given)).past x;
+}
 
 -- ---- one section after another
 
