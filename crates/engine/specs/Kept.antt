@@ -51,7 +51,7 @@ before r values bits outside kept =
 abbrev pub blank : ℕ → Engine
 blank r = before r (zeros cells) (zeros 4) (zeros 4) (record { starts = zeros most_grants; lasts = zeros most_grants; numbers = zeros most_grants; bounds = zeros 8 })
 
--- 1 where the state is not well_formed, then 2 where the grant list breaks its rules
+-- 1 where the state is not well-formed, then 2 where the grant list breaks its rules
 abbrev pub opening_reason : Bool → Bool → ℕ
 opening_reason formed fine = cond formed (cond fine success bad_grants) bad_state
 
