@@ -1,14 +1,9 @@
 -- The kind of a word by the number that it stands under.
 -- Assumes nothing.
-use mathlib.Core.Path.{◌≡◌}
+use mathlib.Core.Path.{◌≡◌, refl}
 use mathlib.Core.Bool.{true, false}
-use mathlib.Core.List.{[], ◌∷◌}
-use mathlib.Core.Logic.{inl, inr}
 use Prim.Native.Nat.{ℕ}
-use native.Mathlib.Omega.{arith}
 use borrow.Author.Tests.{eq-eqb, ne_eqb}
-use denote.Enum.Declared.{tag_of}
-use types.Run.{OneOf}
 use Rattle.meaning.specs.declared.Kind.{Kind}
 use Rattle.meaning.specs.declared.Kind.TheVariants.{Setting, Parameter, Video}
 use Rattle.meaning.specs.Words.{video_offset}
@@ -18,23 +13,21 @@ use Rattle.headers.specs.declared.Group.{Group}
 use Rattle.headers.specs.declared.Group.TheVariants.{Target, Stage, Sample, Nothing}
 use Rattle.headers.specs.Headers.{group_of}
 use Rattle.headers.specs.Told.{Leads, Names}
-use Rattle.headers.specs.contracts.Group.{the_type}
 use Rattle.headers.proofs.Groups.{names}
 use Rattle.asking.specs.declared.Asked.{Asked}
 use Rattle.asking.specs.Asked.{kind_from, asked_in}
 
 -- ---- the group of a number
 
-module _ (s : ℕ) {G : Group} (e : G ≡ group_of s) where
-  -- a number whose group is one of the others leads there
-  pub leads : OneOf (0 ∷ 1 ∷ 2 ∷ []) (tag_of the_type G) → Leads s G
-  leads = by G (rw (← e) at (names s))
-    where
-      by : (G : Group) → Names s G → OneOf (0 ∷ 1 ∷ 2 ∷ []) (tag_of the_type G) → Leads s G
-      by Target n o = n
-      by (Stage c) n o = n
-      by (Sample c) n o = n
-      by Nothing n o = elim o [ inl a ↦ absurd (omega arith) | inr b ↦ elim b [ inl a ↦ absurd (omega arith) | inr a ↦ absurd (omega arith) ] ]
+-- a number that names a group leads there
+pub leads : (s : ℕ) {G : Group} → G ≡ group_of s → (G ≡ Nothing → ⊥) → Leads s G
+leads s {G} e some = by G (rw (← e) at (names s)) some
+  where
+    by : (G : Group) → Names s G → (G ≡ Nothing → ⊥) → Leads s G
+    by Target n o = n
+    by (Stage c) n o = n
+    by (Sample c) n o = n
+    by Nothing n o = absurd (o refl)
 
 -- ---- the kind
 
