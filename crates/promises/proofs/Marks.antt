@@ -26,8 +26,8 @@ use Rattle.engine.proofs.Bits.{marks_length, mark_at_lem}
 abbrev bit : ℕ → ℕ → ℕ
 bit x j = x / 2 ^ j % 2
 
-bit_or : (x y j : ℕ) → bit (bit_or x y) j ≡ bit_or (bit x j) (bit y j)
-bit_or x y j = rw (or_shr x y j) (or_mod (x / 2 ^ j) (y / 2 ^ j) 1)
+bit_or_lem : (x y j : ℕ) → bit (bit_or x y) j ≡ bit_or (bit x j) (bit y j)
+bit_or_lem x y j = rw (or_shr x y j) (or_mod (x / 2 ^ j) (y / 2 ^ j) 1)
 
 power_own : (k : ℕ) → bit (2 ^ k) k ≡ 1
 power_own k =
@@ -54,10 +54,10 @@ with_set (suc (suc b)) h = absurd (omega arith)
 
 -- the bits of a word in which one is set
 or_own : (x k : ℕ) → bit (bit_or x (2 ^ k)) k ≡ 1
-or_own x k = bit_or x (2 ^ k) k ∙ ap (bit_or (bit x k)) (power_own k) ∙ with_set (bit x k) (omega arith)
+or_own x k = bit_or_lem x (2 ^ k) k ∙ ap (bit_or (bit x k)) (power_own k) ∙ with_set (bit x k) (omega arith)
 
 or_other : (x k j : ℕ) → j ≢ k → bit (bit_or x (2 ^ k)) j ≡ bit x j
-or_other x k j n = bit_or x (2 ^ k) j ∙ ap (bit_or (bit x j)) (power_other k j n) ∙ or_zero_r (bit x j)
+or_other x k j n = bit_or_lem x (2 ^ k) j ∙ ap (bit_or (bit x j)) (power_other k j n) ∙ or_zero_r (bit x j)
 
 -- ---- a mark that is set
 

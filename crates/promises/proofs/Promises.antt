@@ -18,7 +18,7 @@ use Rattle.meaning.specs.State.{value_at, mark_at, well_formed, empty, Write, ap
 use Rattle.meaning.specs.Pair.{wrote_pair, Permitted, Longest, Reached}
 use Rattle.meaning.specs.Positions.{writes_of}
 use Rattle.meaning.specs.Answers.{answer}
-use Rattle.meaning.specs.Reader.{read_answer, read_leaves}
+use Rattle.meaning.specs.Reader.{read_leaves}
 use Rattle.meaning.specs.Writer.{written}
 use Rattle.meaning.specs.Lister.{listing, list_answer, list_leaves}
 use Rattle.meaning.specs.Reasons.{Writable, ReaderGives, WriterGives, ListerGives}
@@ -37,9 +37,6 @@ use Rattle.pairing.proofs.Kept.{inside_kept, safe_kept}
 use Rattle.reader.proofs.read.Reads as read
 use Rattle.writer.proofs.write.Reads as write
 use Rattle.lister.proofs.list.Reads as list
-use Rattle.irangelda.proofs.irangelda_read.Reads as irangelda_read
-use Rattle.irangelda.proofs.irangelda_write.Reads as irangelda_write
-use Rattle.irangelda.proofs.irangelda_list.Reads as irangelda_list
 use Rattle.promises.proofs.Bytes.{bytes_small, read_leaves_lem}
 use Rattle.promises.specs.CallContracts.{Reading, Writing, Listing}
 
