@@ -3,8 +3,7 @@
 use mathlib.Core.Path.{refl}
 use Prim.Native.Nat.{◌+◌, ◌%◌, ◌≤◌}
 use native.Mathlib.Omega.{arith}
-use borrow.Author.Rules.{rules}
-use lib.ListN.{length, length-set}
+use lib.ListN.{length}
 use Rattle.list_batch.specs.Printed.{decimal5}
 use Rattle.list_batch.proofs.Puts.{behind, room_behind, digit_small, one_digit}
 use Rattle.list_batch.proofs.put_decimal.Goals as goal
@@ -40,9 +39,6 @@ bounds-out-at c = omega (arith, room-4 (goal.at.bounds-out-at c).After-put_digit
 
 pub overflow_add-result : goal.overflow_add-result
 overflow_add-result c = omega (arith, room-4 (goal.at.overflow_add-result c).After-put_digit-at-4, c.put_digit-at-4.auto.out, c.put_digit-at-3.auto.out, c.put_digit-at-2.auto.out, c.put_digit-at.auto.out)
-
-pub shape_of-out : goal.shape_of-out
-shape_of-out c = simp length-set (search rules)
 
 pub returns : goal.returns
 unfolding decimal5

@@ -2,7 +2,6 @@
 -- Assumes nothing.
 use Prim.Native.Nat.{◌+◌, ◌≤◌}
 use native.Mathlib.Omega.{arith}
-use borrow.Author.Rules.{rules}
 use lib.ListN.{length}
 use Rattle.list_batch.specs.Printed.{refusal_line}
 use Rattle.list_batch.proofs.Puts.{behind, room_behind, five_digits}

@@ -1,16 +1,13 @@
 -- The invariant: the bytes that are left, stored over the buffer as it is now, give what the whole text gives over the buffer at entry.
 -- Assumes nothing.
-use mathlib.Core.Path.{◌≡◌, refl, sym, ap, ◌∙◌}
+use mathlib.Core.Path.{◌≡◌, sym, ap, ◌∙◌}
 use mathlib.Core.List.{[]}
-use Prim.Native.Nat.{suc, ◌+◌, ◌-◌, ◌≤◌}
+use Prim.Native.Nat.{suc, ◌+◌}
 use native.Mathlib.Omega.{arith}
 use lib.ListN.{length, drop, length-set}
 use lib.Seq.{sets, drop-length}
 use Rattle.laws.proofs.Rest.{rest}
 use Rattle.list_batch.proofs.put_text.Goals as goal
-
-pub loop-i-init : goal.loop-i-init
-loop-i-init c = let front : c.args.at + 0 ≡ c.args.at = omega arith in (omega arith, refl, rw front)
 
 pub loop-i-preserved : goal.loop-i-preserved
 loop-i-preserved c = let next : c.args.at + (c.loop-i.i + 1) ≡ suc (c.args.at + c.loop-i.i) = omega arith in (

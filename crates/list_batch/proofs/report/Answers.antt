@@ -1,7 +1,6 @@
 -- The number that the reader gives tells which of the two is printed.
 -- Assumes nothing.
 use mathlib.Core.Path.{sym, ◌∙◌}
-use borrow.Author.Rules.{rules}
 use Rattle.meaning.specs.State.{empty}
 use Rattle.list_batch.specs.Printed.{empty_bytes}
 use Rattle.list_batch.proofs.Left.{tells, refused, listed}
