@@ -1,26 +1,25 @@
 -- The state that an accepted batch leaves is well-formed in its bytes, so that it is listed; and what is printed of a refusal.
 -- Assumes nothing.
-use mathlib.Core.Path.{◌≡◌, refl, sym, ap, ◌∙◌}
+use mathlib.Core.Path.{◌≡◌, ap, ◌∙◌}
 use mathlib.Core.Logic.{◌≢◌}
 use mathlib.Core.Bool.{◌&&◌}
-use mathlib.Core.List.{List, [], ◌∷◌, ◌++◌}
-use Prim.Native.Nat.{ℕ, zero, suc, ◌+◌, ◌*◌, ◌/◌, ◌%◌, ◌≤◌, ◌<◌}
+use mathlib.Core.List.{List, ◌++◌}
+use Prim.Native.Nat.{ℕ, ◌+◌, ◌*◌, ◌/◌, ◌%◌, ◌≤◌}
 use native.Mathlib.Omega.{arith}
 use borrow.Author.Tests.{ne_eqb}
 use lib.Dec.{T, eqb}
-use lib.ListN.{length, drop, get_or, length-append}
+use lib.ListN.{length, drop, length-append}
 use mir.Facts.{yes_and, yes_leb, yes_eqb}
 use Rattle.laws.specs.Lists.{over}
 use Rattle.laws.proofs.Stores.{sets_over}
-use Rattle.meaning.specs.Words.{Word, words_of, bytes_of}
-use Rattle.meaning.specs.Registers.{cells, cell}
-use Rattle.meaning.specs.State.{mark_at, well_formed, empty}
+use Rattle.meaning.specs.Words.{words_of, bytes_of}
+use Rattle.meaning.specs.State.{well_formed, empty}
 use Rattle.meaning.specs.Answers.{number_of}
 use Rattle.meaning.specs.Text.{ascii}
 use Rattle.meaning.specs.Reader.{read_leaves}
 use Rattle.meaning.specs.Lister.{most_listed, listing, list_answer, list_leaves}
 use Rattle.meaning.specs.Exported.{most_bytes, buffer_fine, word_buffer_fine, exported_read, exported_read_leaves, exported_list, exported_list_leaves}
-use Rattle.meaning.proofs.Bytes.{words_bytes, length_words, length_bytes, number_tells, settle_done}
+use Rattle.meaning.proofs.Bytes.{length_bytes, number_tells, settle_done}
 use Rattle.meaning.proofs.States.{formed_iff, empty_well_formed}
 use Rattle.meaning.specs.Reasons.{ListerGives}
 use Rattle.meaning.proofs.Round.{leaves_formed}

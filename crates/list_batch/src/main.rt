@@ -1,7 +1,7 @@
 // Lists the state that a batch on standard input leaves from the empty state, or says why the batch comes back.
 #![tactic(auto)]
 
-ghost use Rattle.std.specs.Prelude.{◌≡◌, ◌+◌, ◌≤◌, ◌<◌, length, take, IfOk, IfSome, OnOk, vec_capacity};
+ghost use Rattle.std.specs.Prelude.{◌≡◌, ◌+◌, ◌≤◌, ◌<◌, [], length, take, IfOk, IfSome, OnOk, vec_capacity};
 ghost use Rattle.std.specs.Io.KnownBytes.{Appends};
 ghost use Rattle.laws.specs.Lists.{over};
 ghost use Rattle.meaning.specs.Answers.{number_of};
@@ -33,7 +33,7 @@ const TEXT_ROOM: usize = MOST_LISTED;
 // Room for all that is read.
 fn input_buffer(alloc: Global) -> Result<Vec<u8>, AllocError>
     ensures whole { IfOk result (λ input. most_bytes + 1 ≡ vec_capacity input) }
-    ensures empty { IfOk result (λ input. 0 ≡ length input.items) }
+    ensures empty { IfOk result (λ input. input.items ≡ []) }
 {
     Vec::with_capacity(alloc, INPUT_ROOM)
 }

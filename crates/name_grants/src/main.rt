@@ -2,7 +2,7 @@
 // batch leaves, and the listing of the registers; or why the batch comes back.
 #![tactic(auto)]
 
-ghost use Rattle.std.specs.Prelude.{◌≡◌, ◌+◌, ◌*◌, ◌≤◌, T, length, take, drop, IfOk, IfSome, OnOk, vec_capacity};
+ghost use Rattle.std.specs.Prelude.{◌≡◌, ◌+◌, ◌*◌, ◌≤◌, T, [], length, take, drop, IfOk, IfSome, OnOk, vec_capacity};
 ghost use Rattle.std.specs.Io.KnownBytes.{Appends};
 ghost use Rattle.laws.specs.Lists.{over};
 ghost use Rattle.meaning.specs.Words.{words_of};
@@ -29,7 +29,7 @@ const OUTPUT_ROOM: usize = WORD + CELLS + MOST_LISTED;
 // Room for all that is read.
 fn input_buffer(alloc: Global) -> Result<Vec<u8>, AllocError>
     ensures whole { IfOk result (λ input. 4 + 2 * (most_bytes + 1) ≡ vec_capacity input) }
-    ensures empty { IfOk result (λ input. 0 ≡ length input.items) }
+    ensures empty { IfOk result (λ input. input.items ≡ []) }
 {
     Vec::with_capacity(alloc, INPUT_ROOM)
 }

@@ -2,7 +2,7 @@
 // as the C calls give them.
 #![tactic(auto)]
 
-ghost use Rattle.std.specs.Prelude.{◌≡◌, ◌+◌, ◌≤◌, length, take, IfOk, IfSome, OnOk, vec_capacity};
+ghost use Rattle.std.specs.Prelude.{◌≡◌, ◌+◌, ◌≤◌, [], length, take, IfOk, IfSome, OnOk, vec_capacity};
 ghost use Rattle.std.specs.Io.KnownBytes.{Appends};
 ghost use Rattle.laws.specs.Lists.{over};
 ghost use Rattle.meaning.specs.Exported.{most_bytes};
@@ -33,7 +33,7 @@ const OUTPUT_ROOM: usize = 2 * NUMBER + 4 * MOST_WRITTEN;
 // Room for all that is read.
 fn input_buffer(alloc: Global) -> Result<Vec<u8>, AllocError>
     ensures whole { IfOk result (λ input. most_bytes + 1 ≡ vec_capacity input) }
-    ensures empty { IfOk result (λ input. 0 ≡ length input.items) }
+    ensures empty { IfOk result (λ input. input.items ≡ []) }
 {
     Vec::with_capacity(alloc, INPUT_ROOM)
 }
