@@ -1,7 +1,7 @@
 // Lists the state that a batch on standard input leaves from the empty state, or says why the batch comes back.
 #![tactic(auto)]
 
-ghost use Rattle.std.specs.Prelude.{◌≡◌, ◌+◌, ◌≤◌, ◌<◌, [], length, take, IfOk, IfSome, OnOk, vec_capacity};
+ghost use Rattle.std.specs.Prelude.{◌≡◌, ◌+◌, ◌≤◌, ◌<◌, length, IfOk, OnOk};
 ghost use Rattle.std.specs.Io.KnownBytes.{Appends};
 ghost use Rattle.laws.specs.Lists.{over};
 ghost use Rattle.meaning.specs.Answers.{number_of};
@@ -11,7 +11,6 @@ ghost use Rattle.list_batch.specs.Put.{Put};
 ghost use Rattle.list_batch.specs.Printed.{digit_for, decimal5, refusal_line, k1_grant, printed};
 
 use meaning::{MOST_BYTES, MOST_LISTED, STATE_WORDS};
-use std::alloc::{AllocError, Global};
 use std::io;
 use std::io::{Read, Write};
 
@@ -30,12 +29,11 @@ const INPUT_ROOM: usize = MOST_BYTES + 1;
 // As many bytes as the longest listing has; a refusal has fewer.
 const TEXT_ROOM: usize = MOST_LISTED;
 
-// Room for all that is read.
-fn input_buffer(alloc: Global) -> Result<Vec<u8>, AllocError>
-    ensures whole { IfOk result (λ input. most_bytes + 1 ≡ vec_capacity input) }
-    ensures empty { IfOk result (λ input. input.items ≡ []) }
+// Where the array is made, so that no proof but this one has to look at 65,537 zeros.
+fn input_buffer() -> [u8; INPUT_ROOM]
+    ensures whole { most_bytes + 1 ≡ length result }
 {
-    Vec::with_capacity(alloc, INPUT_ROOM)
+    [0; INPUT_ROOM]
 }
 
 // Here and below the answer is where the text ends.
@@ -112,13 +110,19 @@ fn report(batch: &[u8], out: &mut [u8]) -> usize
     (listed / 256) as usize
 }
 
-// What stands on an input, read to its end or up to one byte more than a batch may have.
-fn read_input<R: Read + Drop>(alloc: Global, from: R) -> io::Result<Vec<u8>>
-    ensures bytes { IfOk result (λ input. IfSome (R.remaining from) (λ all. input.items ≡ take (most_bytes + 1) all)) }
+// Reads until the room is full or the input has ended. The answer is how many bytes that is.
+fn read_full<R: Read>(from: &mut R, room: &mut [u8]) -> io::Result<usize>
+    ensures inside { IfOk result (λ got. got ≤ length room.new) }
 {
-    let mut input = input_buffer(alloc)?;
-    from.take(INPUT_ROOM as u64).read_to_end(&mut input)?;
-    Ok(input)
+    let mut got = 0;
+    while got < room.len() {
+        let more = from.read(&mut room[got..])?;
+        if more == 0 {
+            return Ok(got);
+        }
+        got += more;
+    }
+    Ok(got)
 }
 
 // Writes what is printed of a batch.
@@ -132,8 +136,10 @@ fn write_report<W: Write>(batch: &[u8], to: &mut W) -> io::Result<()>
 
 // A batch that was not read whole is not listed.
 fn main(rt: HostRuntime) -> io::Result<()> {
-    match read_input(rt.alloc(), rt.stdin()) {
-        Ok(batch) => write_report(&batch, &mut rt.stdout()),
+    let mut input = input_buffer();
+    let mut from = rt.stdin();
+    match read_full(&mut from, &mut input) {
+        Ok(got) => write_report(&input[..got], &mut rt.stdout()),
         Err(_) => eprintln!(rt; "list_batch: standard input cannot be read to its end"),
     }
 }
