@@ -2,14 +2,13 @@
 // as the C calls give them.
 #![tactic(auto)]
 
-ghost use Rattle.std.specs.Prelude.{◌≡◌, ◌+◌, ◌≤◌, [], length, take, IfOk, IfSome, OnOk, vec_capacity};
+ghost use Rattle.std.specs.Prelude.{◌≡◌, ◌+◌, ◌≤◌, length, IfOk, OnOk};
 ghost use Rattle.std.specs.Io.KnownBytes.{Appends};
 ghost use Rattle.laws.specs.Lists.{over};
 ghost use Rattle.meaning.specs.Exported.{most_bytes};
 ghost use Rattle.restore_listing.specs.Restored.{number_bytes, rewritten, restored, most_rewritten, most_restored};
 
 use meaning::{MOST_BYTES, MOST_WRITTEN, STATE_WORDS};
-use std::alloc::{AllocError, Global};
 use std::io;
 use std::io::{Read, Write};
 
@@ -30,12 +29,11 @@ const NUMBER: usize = 8;
 
 const OUTPUT_ROOM: usize = 2 * NUMBER + 4 * MOST_WRITTEN;
 
-// Room for all that is read.
-fn input_buffer(alloc: Global) -> Result<Vec<u8>, AllocError>
-    ensures whole { IfOk result (λ input. most_bytes + 1 ≡ vec_capacity input) }
-    ensures empty { IfOk result (λ input. input.items ≡ []) }
+// Where the array is made, so that no proof but this one has to look at 65,537 zeros.
+fn input_buffer() -> [u8; INPUT_ROOM]
+    ensures whole { most_bytes + 1 ≡ length result }
 {
-    Vec::with_capacity(alloc, INPUT_ROOM)
+    [0; INPUT_ROOM]
 }
 
 // Puts a number in front.
@@ -82,13 +80,19 @@ fn report(text: &[u8], out: &mut [u8]) -> usize
     NUMBER + put_batch(&state, &mut out[NUMBER..])
 }
 
-// What stands on an input, read to its end or up to one byte more than a text may have.
-fn read_input<R: Read + Drop>(alloc: Global, from: R) -> io::Result<Vec<u8>>
-    ensures bytes { IfOk result (λ input. IfSome (R.remaining from) (λ all. input.items ≡ take (most_bytes + 1) all)) }
+// Reads until the room is full or the input has ended. The answer is how many bytes that is.
+fn read_full<R: Read>(from: &mut R, room: &mut [u8]) -> io::Result<usize>
+    ensures inside { IfOk result (λ got. got ≤ length room.new) }
 {
-    let mut input = input_buffer(alloc)?;
-    from.take(INPUT_ROOM as u64).read_to_end(&mut input)?;
-    Ok(input)
+    let mut got = 0;
+    while got < room.len() {
+        let more = from.read(&mut room[got..])?;
+        if more == 0 {
+            return Ok(got);
+        }
+        got += more;
+    }
+    Ok(got)
 }
 
 // Writes what there is to write of a text.
@@ -102,8 +106,10 @@ fn write_report<W: Write>(text: &[u8], to: &mut W) -> io::Result<()>
 
 // A text that was not read whole is not taken for one.
 fn main(rt: HostRuntime) -> io::Result<()> {
-    match read_input(rt.alloc(), rt.stdin()) {
-        Ok(text) => write_report(&text, &mut rt.stdout()),
+    let mut input = input_buffer();
+    let mut from = rt.stdin();
+    match read_full(&mut from, &mut input) {
+        Ok(got) => write_report(&input[..got], &mut rt.stdout()),
         Err(_) => eprintln!(rt; "restore_listing: standard input cannot be read to its end"),
     }
 }
