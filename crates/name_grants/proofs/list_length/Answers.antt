@@ -1,6 +1,5 @@
 -- The word is read, and held to what there is.
 -- Assumes nothing.
-use borrow.Author.Rules.{rules}
 use Rattle.name_grants.proofs.Parts.{all_there, too_few}
 use Rattle.name_grants.proofs.list_length.Goals as goal
 

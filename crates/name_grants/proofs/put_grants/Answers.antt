@@ -1,12 +1,10 @@
 -- The invariant: the places of the cells that are left, stored behind those that are put, give what all give over the buffer at entry.
 -- Assumes nothing.
-use mathlib.Core.Logic.{inl, inr}
-use Prim.Native.Nat.{◌-◌, ◌≤◌}
 use native.Mathlib.Omega.{arith}
-use borrow.Author.Rules.{rules}
-use Rattle.meaning.specs.Registers.{cells, cell}
-use Rattle.name_grants.proofs.Places.{place_low, place_told, Going, begin, ended, passed, put}
+use Rattle.meaning.specs.Registers.{cell}
+use Rattle.name_grants.proofs.Places.{place_low, place_told, begin, ended, passed, put}
 use Rattle.name_grants.proofs.put_grants.Goals as goal
+use Rattle.name_grants.proofs.put_grants.Goals.{then-mark-ne0, else-mark-ne0}
 
 pub loop-c-init : goal.loop-c-init
 loop-c-init c = (omega arith, begin)
@@ -26,8 +24,8 @@ overflow_add-count c = omega (arith, c.loop-c.invariant.1.past)
 
 pub loop-c-preserved : goal.loop-c-preserved
 loop-c-preserved c = elim c.if-mark-ne0.branch [
-  | inl w ↦ (omega arith, rw (w.2, w.3) (put c.loop-c.invariant.1 (omega arith) c.mark.ensures.mark w.0.taken (place_told c.args.state.now c.args.grants.now (cell c.loop-c.c) w.1.ensures)))
-  | inr w ↦ (omega arith, rw (w.1, w.2) (passed c.loop-c.invariant.1 (omega arith) c.mark.ensures.mark w.0.left))
+  | then-mark-ne0 w ↦ (omega arith, rw (w.out-is, w.count-is) (put c.loop-c.invariant.1 (omega arith) c.mark.ensures.mark w.if-mark-ne0.true (place_told c.args.state.now c.args.grants.now (cell c.loop-c.c) w.irangelda_which_grant-number.ensures.number)))
+  | else-mark-ne0 w ↦ (omega arith, rw (w.out-is, w.count-is) (passed c.loop-c.invariant.1 (omega arith) c.mark.ensures.mark w.if-mark-ne0.false))
 ]
 
 pub shape_of-out : goal.shape_of-out

@@ -1,11 +1,8 @@
 -- The invariant: the places of the cells that are left, stored behind those that are put, give what all give over the buffer at entry.
 -- Assumes nothing.
-use mathlib.Core.Logic.{inl, inr}
 use Prim.Native.Nat.{◌-◌, ◌≤◌}
-use native.Mathlib.Omega.{arith}
-use borrow.Author.Rules.{rules}
-use Rattle.meaning.specs.Registers.{cells, cell}
-use Rattle.name_grants.proofs.Places.{place_low, place_told, Going, begin, ended, passed, put}
+use Rattle.meaning.specs.Registers.{cells}
+use Rattle.name_grants.proofs.Places.{Going}
 use Rattle.name_grants.proofs.put_grants.Given as goal
 
 abbrev pub invariant-loop-c : goal.invariant-loop-c

@@ -1,7 +1,6 @@
 -- The places first, and the listing in the room behind them.
 -- Assumes nothing.
 use native.Mathlib.Omega.{arith}
-use borrow.Author.Rules.{rules}
 use Rattle.meaning.proofs.Bytes.{length_words}
 use Rattle.name_grants.proofs.Places.{places_within}
 use Rattle.name_grants.proofs.Told.{told_whole, told_few}
@@ -18,4 +17,4 @@ returns c = let both = told_whole c.args.state.now c.args.grants.now c.args.out.
     c.put_grants-places.ensures.bytes c.irangelda_list-number.result c.irangelda_list-number.ensures.number c.irangelda_list-number.new.out c.irangelda_list-number.ensures.bytes in record { count = both.0; bytes = both.1 }
 
 pub overflow_add-result : goal.overflow_add-result
-overflow_add-result c = omega (arith, (returns c).0, told_few c.args.state.now c.args.grants.now)
+overflow_add-result c = omega (arith, (returns c).count, told_few c.args.state.now c.args.grants.now)

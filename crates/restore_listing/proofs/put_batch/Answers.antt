@@ -1,6 +1,5 @@
 -- The words go behind the place of the number that tells how many they are.
 -- Assumes nothing.
-use borrow.Author.Rules.{rules}
 use Rattle.restore_listing.proofs.Rewritten.{no_batch, a_batch}
 use Rattle.restore_listing.proofs.put_batch.Goals as goal
 

@@ -1,9 +1,9 @@
 -- The invariant: the bytes that are left, stored over the buffer as it is now, give what all eight give over the buffer at entry.
 -- Assumes nothing.
 use mathlib.Core.Path.{◌≡◌, refl, sym, ap, ◌∙◌}
-use Prim.Native.Nat.{suc, ◌+◌, ◌-◌, ◌≤◌}
+use Prim.Native.Nat.{suc, ◌+◌, ◌-◌}
 use native.Mathlib.Omega.{arith}
-use lib.ListN.{length, length-set}
+use lib.ListN.{length-set}
 use lib.Seq.{sets}
 use Rattle.laws.proofs.Stores.{sets_over}
 use Rattle.restore_listing.specs.Restored.{number_bytes}

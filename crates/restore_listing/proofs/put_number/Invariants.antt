@@ -1,13 +1,11 @@
 -- The invariant: the bytes that are left, stored over the buffer as it is now, give what all eight give over the buffer at entry.
 -- Assumes nothing.
-use mathlib.Core.Path.{◌≡◌, refl, sym, ap, ◌∙◌}
-use Prim.Native.Nat.{suc, ◌+◌, ◌-◌, ◌≤◌}
-use native.Mathlib.Omega.{arith}
-use lib.ListN.{length, length-set}
+use mathlib.Core.Path.{◌≡◌}
+use Prim.Native.Nat.{◌-◌, ◌≤◌}
+use lib.ListN.{length}
 use lib.Seq.{sets}
-use Rattle.laws.proofs.Stores.{sets_over}
 use Rattle.restore_listing.specs.Restored.{number_bytes}
-use Rattle.restore_listing.proofs.Fronts.{low_bytes, eight_bytes, eight}
+use Rattle.restore_listing.proofs.Fronts.{low_bytes}
 use Rattle.restore_listing.proofs.put_number.Given as goal
 
 abbrev pub invariant-loop-i : goal.invariant-loop-i

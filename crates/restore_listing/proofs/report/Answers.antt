@@ -1,7 +1,6 @@
 -- The listing reader's number tells whether there is a state to write.
 -- Assumes nothing.
 use native.Mathlib.Omega.{arith}
-use borrow.Author.Rules.{rules}
 use Rattle.meaning.specs.State.{empty}
 use Rattle.restore_listing.specs.Restored.{empty_bytes, state_read}
 use Rattle.restore_listing.proofs.Rewritten.{rewritten_within}
