@@ -2,7 +2,7 @@
 // batch leaves, and the listing of the registers; or why the batch comes back.
 #![tactic(auto)]
 
-ghost use Rattle.std.specs.Prelude.{◌≡◌, ◌+◌, ◌*◌, ◌≤◌, T, [], length, take, drop, IfOk, IfSome, OnOk, vec_capacity};
+ghost use Rattle.std.specs.Prelude.{◌≡◌, ◌+◌, ◌*◌, ◌≤◌, T, length, take, drop, IfOk, OnOk};
 ghost use Rattle.std.specs.Io.KnownBytes.{Appends};
 ghost use Rattle.laws.specs.Lists.{over};
 ghost use Rattle.meaning.specs.Words.{words_of};
@@ -13,7 +13,6 @@ ghost use Rattle.meaning.specs.Lister.{most_listed};
 ghost use Rattle.name_grants.specs.Named.{grants_in, batch_in, grant_places, told, named, most_named};
 
 use meaning::{CELLS, Cell, MOST_BYTES, MOST_LISTED, STATE_WORDS};
-use std::alloc::{AllocError, Global};
 use std::io;
 use std::io::{Read, Write};
 
@@ -26,12 +25,11 @@ const INPUT_ROOM: usize = WORD + 2 * (MOST_BYTES + 1);
 // The answer, a byte for each cell, and the longest listing.
 const OUTPUT_ROOM: usize = WORD + CELLS + MOST_LISTED;
 
-// Room for all that is read.
-fn input_buffer(alloc: Global) -> Result<Vec<u8>, AllocError>
-    ensures whole { IfOk result (λ input. 4 + 2 * (most_bytes + 1) ≡ vec_capacity input) }
-    ensures empty { IfOk result (λ input. input.items ≡ []) }
+// Where the array is made, so that no proof but this one has to look at 131,078 zeros.
+fn input_buffer() -> [u8; INPUT_ROOM]
+    ensures whole { 4 + 2 * (most_bytes + 1) ≡ length result }
 {
-    Vec::with_capacity(alloc, INPUT_ROOM)
+    [0; INPUT_ROOM]
 }
 
 // The place of the query's answer for each marked cell. Here and below the answer is how many bytes are put.
@@ -110,13 +108,19 @@ fn report_input(input: &[u8], out: &mut [u8]) -> usize
     report(&input[WORD..end], &input[end..], out)
 }
 
-// What stands on an input, read to its end or up to one byte more than grants and a batch may have.
-fn read_input<R: Read + Drop>(alloc: Global, from: R) -> io::Result<Vec<u8>>
-    ensures bytes { IfOk result (λ input. IfSome (R.remaining from) (λ all. input.items ≡ take (4 + 2 * (most_bytes + 1)) all)) }
+// Reads until the room is full or the input has ended. The answer is how many bytes that is.
+fn read_full<R: Read>(from: &mut R, room: &mut [u8]) -> io::Result<usize>
+    ensures inside { IfOk result (λ got. got ≤ length room.new) }
 {
-    let mut input = input_buffer(alloc)?;
-    from.take(INPUT_ROOM as u64).read_to_end(&mut input)?;
-    Ok(input)
+    let mut got = 0;
+    while got < room.len() {
+        let more = from.read(&mut room[got..])?;
+        if more == 0 {
+            return Ok(got);
+        }
+        got += more;
+    }
+    Ok(got)
 }
 
 // Writes what there is to write of the input.
@@ -130,8 +134,10 @@ fn write_report<W: Write>(input: &[u8], to: &mut W) -> io::Result<()>
 
 // A batch that was not read whole is not taken for one.
 fn main(rt: HostRuntime) -> io::Result<()> {
-    match read_input(rt.alloc(), rt.stdin()) {
-        Ok(input) => write_report(&input, &mut rt.stdout()),
+    let mut input = input_buffer();
+    let mut from = rt.stdin();
+    match read_full(&mut from, &mut input) {
+        Ok(got) => write_report(&input[..got], &mut rt.stdout()),
         Err(_) => eprintln!(rt; "name_grants: standard input cannot be read to its end"),
     }
 }
