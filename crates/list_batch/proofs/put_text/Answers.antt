@@ -2,19 +2,11 @@
 -- Assumes nothing.
 use mathlib.Core.Path.{◌≡◌, sym, ap, ◌∙◌}
 use mathlib.Core.List.{[]}
-use Prim.Native.Nat.{suc, ◌+◌}
+use Prim.Native.Nat.{◌+◌}
 use native.Mathlib.Omega.{arith}
-use lib.ListN.{length, drop, length-set}
+use lib.ListN.{length, drop}
 use lib.Seq.{sets, drop-length}
-use Rattle.laws.proofs.Rest.{rest}
 use Rattle.list_batch.proofs.put_text.Goals as goal
-
-pub loop-i-preserved : goal.loop-i-preserved
-loop-i-preserved c = let next : c.args.at + (c.loop-i.i + 1) ≡ suc (c.args.at + c.loop-i.i) = omega arith in (
-  omega arith,
-  simp length-set (omega arith),
-  rw next (sym (ap (sets c.loop-i.out (c.args.at + c.loop-i.i)) (rest c.args.text.now c.loop-i.i (omega arith))) ∙ c.loop-i.invariant.2),
-)
 
 pub returns : goal.returns
 returns c = record {

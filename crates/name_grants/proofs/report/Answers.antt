@@ -6,7 +6,6 @@ use borrow.Author.Rules.{rules}
 use Rattle.meaning.specs.State.{empty}
 use Rattle.name_grants.specs.Named.{empty_bytes, state_left}
 use Rattle.name_grants.proofs.Left.{state_formed, state_size}
-use Rattle.name_grants.proofs.Told.{told_few}
 use Rattle.name_grants.proofs.Answered.{number_small, tells, refused, taken}
 use Rattle.name_grants.proofs.report.Goals as goal
 
@@ -20,9 +19,6 @@ returns-then-number-ne0 c = let both = refused c.args.grants.now c.args.batch.no
 pub put_state-requires : goal.put_state-requires
 unfolding empty_bytes empty state_left
 put_state-requires c = let done = sym (tells c.args.grants.now c.args.batch.now c.args.out.now c.requires.room c.irangelda_read-number.result c.irangelda_read-number.ensures.number c.put_word.new.bytes c.put_word.ensures.stored) ∙ c.if-number-ne0.false in record { size = rw c.irangelda_read-number.ensures.bytes (state_size c.args.grants.now c.args.batch.now done); formed = rw c.irangelda_read-number.ensures.bytes (state_formed c.args.grants.now c.args.batch.now done); room = search rules }
-
-pub overflow_add-result : goal.overflow_add-result
-overflow_add-result c = omega (arith, c.put_state.ensures.count, told_few c.irangelda_read-number.new.state c.args.grants.now)
 
 pub returns : goal.returns
 unfolding empty_bytes empty state_left
