@@ -25,7 +25,7 @@ for name in (
     "told-by video-rows which-held wrote-pair write-answer one-of cell-of "
     "all_apart goes_on group_at left_by no_address of_row read_answer run_in written_in fed_by"
 ).split():
-    TOLD_APART[name] = name.replace("-", "_") + "_lem"
+    TOLD_APART[name] = name.replace("-", "_").replace("3D", "3d") + "_lem"
 for name in (
     "bad-state bad-grants bad-offset bad-count bad-run bad-setting bit-set bad-value not-granted ends-inside bad-pair not-writable "
     "not-listing bad-buffer no_room no_register"

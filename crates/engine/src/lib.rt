@@ -34,7 +34,7 @@ const MARKS_IN_WORD: usize = 32;
 // What is kept between words: the answer that stands, which is 0 at the number of words fed as long as none is refused; the position in the
 // packet (asking::Asked says how); the cells with all that the words fed write; the cells as they were at opening; and the grants, as
 // the reader keeps them. All of it is copied with each word, so it is no larger than it must be.
-#[derive(Drop)]
+#[derive(Clone, Copy)]
 pub struct Engine {
     pub reason: u32,
     pub place: u32,
@@ -51,7 +51,7 @@ pub struct Engine {
 }
 
 // The answer at closing, and the state that is handed back.
-#[derive(Drop)]
+#[derive(Clone, Copy)]
 pub struct Closed {
     pub answer: Answer,
     pub state: State,

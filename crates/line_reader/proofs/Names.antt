@@ -48,9 +48,9 @@ same_list_lem (x ∷ xs) (y ∷ ys) t =
 
 -- ---- how long a name is
 
-pub name_3D_lem : (c : ℕ) → c < first_video → name_text c ≡ name_3d c
+pub name_3d_lem : (c : ℕ) → c < first_video → name_text c ≡ name_3d c
 unfolding name_text
-name_3D_lem c l = rw (le-leb c 83 (omega arith))
+name_3d_lem c l = rw (le-leb c 83 (omega arith))
 
 pub name_video_lem : (c : ℕ) → first_video ≤ c → name_text c ≡ name_video c
 unfolding name_text
@@ -58,7 +58,7 @@ name_video_lem c l = rw (lt-leb c 83 (omega arith))
 
 pub length_3d : (c : ℕ) → c < first_video → length (name_text c) ≡ 12
 unfolding name_3d hex
-length_3d c l = rw (name_3D_lem c l)
+length_3d c l = rw (name_3d_lem c l)
 
 pub length_video : (c : ℕ) → first_video ≤ c → length (name_text c) ≡ 8
 unfolding name_video hex
@@ -250,7 +250,7 @@ named_video o l = rw (as_search o) (searched o keys keys_test (rw (as_search o) 
 begins : (d : ℕ) → (take 4 (name_text d) ≡ bytes_of (reg_key ∷ [])) × (4 ≤ length (name_text d))
 unfolding name_3d name_video
 begins d = elim (dec_lt d first_video) [
-  | yes h ↦ rw (name_3D_lem d h) (refl, omega arith)
+  | yes h ↦ rw (name_3d_lem d h) (refl, omega arith)
   | no h ↦ rw (name_video_lem d (omega arith)) (refl, omega arith)
 ]
 

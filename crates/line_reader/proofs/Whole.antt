@@ -119,8 +119,8 @@ module _ (xs : List ℕ) (first end : ℕ) (in_table : end ≤ cells) {n e : ℕ
         none = λ l. absurd (omega arith);
       }
 
-  pub line_3D_lem : n < first_video → value ≤ 16777215 → LineAt xs first end n value
-  line_3D_lem k w = line_of (rw (width_3d n k) (omega arith))
+  pub line_3d_lem : n < first_video → value ≤ 16777215 → LineAt xs first end n value
+  line_3d_lem k w = line_of (rw (width_3d n k) (omega arith))
 
   pub line_video_lem : first_video ≤ n → LineAt xs first end n value
   line_video_lem k = line_of (rw (width_video n k (omega arith)) (stands.found f).0)

@@ -15,7 +15,7 @@ use Rattle.meaning.specs.Lister.{hex}
 use Rattle.meaning.specs.ListingReader.{form_of, table_lines, Outcome, refused, further, with, read_lines}
 use Rattle.listings.specs.Lines.{name_3d, name_video, line_for, lines_from, furthest_of}
 use Rattle.listings.proofs.Forms.{along_within}
-use Rattle.listings.proofs.Numbers.{by_number, line_3D_lem, line_video_lem}
+use Rattle.listings.proofs.Numbers.{by_number, line_3d_lem, line_video_lem}
 use Rattle.listings.proofs.Here.{form, here_whole, read_found, read_none}
 use Rattle.line_reader.specs.Read.{LineAt}
 
@@ -23,7 +23,7 @@ use Rattle.line_reader.specs.Read.{LineAt}
 
 pub width_3d : (c : ℕ) → c < first_video → 26 ≡ length (form_of (line_for c))
 unfolding name_3d hex
-width_3d c l = rw (line_3D_lem c l)
+width_3d c l = rw (line_3d_lem c l)
 
 pub width_video : (c : ℕ) → first_video ≤ c → 22 ≡ length (form_of (line_for c))
 unfolding name_video hex

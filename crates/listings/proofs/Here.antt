@@ -20,7 +20,7 @@ use Rattle.meaning.specs.ListingReader.{Slot, fixed, any_digit, Line, along, for
 use Rattle.listings.specs.Lines.{name_3d, name_video, name_text, line_text, LineHere, line_for, lines_from, furthest_of}
 use Rattle.listings.proofs.Forms.{follows_length, whole_follows, follows_whole, apart, apart_along}
 use Rattle.listings.proofs.Lines.{all_apart}
-use Rattle.listings.proofs.Numbers.{by_number, lines_next, lines_left, line_3D_lem, line_video_lem, line_cell, width_3d, width_video}
+use Rattle.listings.proofs.Numbers.{by_number, lines_next, lines_left, line_3d_lem, line_video_lem, line_cell, width_3d, width_video}
 use Rattle.listings.proofs.Table.{lines_apart}
 use Rattle.listings.proofs.Texts.{text_of, text_follows, text_writes, follows_text}
 
@@ -29,7 +29,7 @@ use Rattle.listings.proofs.Texts.{text_of, text_follows, text_writes, follows_te
 -- so many values as its free digits tell fit
 pub digits_width : (c : ℕ) → c < cells → 16 ^ (line_for c).digits ≡ 2 ^ (register_at (cell c)).width
 digits_width c l = elim (dec_lt c first_video) [
-  | yes h ↦ rw (line_3D_lem c h, width_3d c h)
+  | yes h ↦ rw (line_3d_lem c h, width_3d c h)
   | no h ↦ rw (line_video_lem c (omega arith), width_video c (omega arith) l)
 ]
 
@@ -38,7 +38,7 @@ unfolding name_text name_3d hex digit
 line_text_3d c v l h =
     let a : v / 268435456 ≡ 0 = omega arith in
     let b : v / 16777216 ≡ 0 = omega arith in
-    rw (line_3D_lem c l, le-leb c 83 (omega arith), a, b)
+    rw (line_3d_lem c l, le-leb c 83 (omega arith), a, b)
 
 line_text_video : (c v : ℕ) → first_video ≤ c → line_text c v ≡ text_of (line_for c) v
 unfolding name_text name_video hex

@@ -43,9 +43,9 @@ lines_left c = length_from line_for c (cells - c)
 
 -- ---- the line of a cell
 
-pub line_3D_lem : (c : ℕ) → c < first_video → line_for c ≡ record { cell = cell c; before = name_3d c ++ ascii " val=00"; digits = 6 }
+pub line_3d_lem : (c : ℕ) → c < first_video → line_for c ≡ record { cell = cell c; before = name_3d c ++ ascii " val=00"; digits = 6 }
 unfolding line_for
-line_3D_lem c l = rw (le-leb c 83 (omega arith))
+line_3d_lem c l = rw (le-leb c 83 (omega arith))
 
 pub line_video_lem : (c : ℕ) → first_video ≤ c → line_for c ≡ record { cell = cell c; before = name_video c ++ ascii " val="; digits = 8 }
 unfolding line_for
@@ -53,7 +53,7 @@ line_video_lem c l = rw (lt-leb c 83 (omega arith))
 
 pub line_cell : (c : ℕ) → (line_for c).cell ≡ cell c
 line_cell c = elim (dec_lt c first_video) [
-  | yes l ↦ rw (line_3D_lem c l)
+  | yes l ↦ rw (line_3d_lem c l)
   | no n ↦ rw (line_video_lem c (omega arith))
 ]
 
@@ -84,7 +84,7 @@ unfolding cell_line_3d name_3d hex digit
 text_3d c v l h =
     let a : v / 268435456 ≡ 0 = omega arith in
     let b : v / 16777216 ≡ 0 = omega arith in
-    rw (line_3D_lem c l, a, b)
+    rw (line_3d_lem c l, a, b)
 
 pub text_video : (c v : ℕ) → first_video ≤ c → cell_line_video (cell c) v ≡ text_of (line_for c) v
 unfolding cell_line_video name_video hex

@@ -6,7 +6,7 @@ use lib.ListN.{drop, length-drop}
 use lib.Seq.{drop-drop}
 use borrow.Author.Tests.{not-true, not-false}
 use Rattle.line_reader.specs.Read.{ValueAt}
-use Rattle.line_reader.proofs.Whole.{name_ends, too_short, before_first, past_end, by_no_room, no_value, too_wide, line_3D_lem, line_video_lem}
+use Rattle.line_reader.proofs.Whole.{name_ends, too_short, before_first, past_end, by_no_room, no_value, too_wide, line_3d_lem, line_video_lem}
 use Rattle.line_reader.proofs.read_line.Goals as goal
 use Rattle.line_reader.proofs.read_line.Goals.{After-value_at-value}
 
@@ -43,7 +43,7 @@ returns-then-value-gt16777215 c = record { line = too_wide _ c.args.first c.args
 
 pub returns-else-value-gt16777215 : goal.returns-else-value-gt16777215
 returns-else-value-gt16777215 c = record {
-  line = line_3D_lem _ c.args.first c.args.end c.requires.cells c.name_at-name.ensures.name (omega arith) (omega arith) (omega (arith, length-drop c.args.at c.args.text.now))
+  line = line_3d_lem _ c.args.first c.args.end c.requires.cells c.name_at-name.ensures.name (omega arith) (omega arith) (omega (arith, length-drop c.args.at c.args.text.now))
       (stands (goal.at.returns-else-value-gt16777215 c).After-value_at-value) (not-false _ c.if-not-value.false) (omega arith) (omega arith);
 }
 
