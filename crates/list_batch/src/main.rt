@@ -1,8 +1,8 @@
 // Lists the state that a batch on standard input leaves from the empty state, or says why the batch comes back.
 #![tactic(auto)]
 
-ghost use Rattle.std.specs.Prelude.{◌≡◌, ◌+◌, ◌≤◌, ◌<◌, length, IfOk, OnOk};
-ghost use Rattle.std.specs.Io.KnownBytes.{Appends};
+ghost use Rattle.std.specs.Prelude.{◌≡◌, ◌+◌, ◌≤◌, ◌<◌, length, take, IfOk, OnOk};
+ghost use Rattle.std.specs.Io.KnownBytes.{Appends, Consumes, IsAtEnd};
 ghost use Rattle.laws.specs.Lists.{over};
 ghost use Rattle.meaning.specs.Answers.{number_of};
 ghost use Rattle.meaning.specs.Exported.{most_bytes, exported_read, exported_read_leaves};
@@ -113,6 +113,8 @@ fn report(batch: &[u8], out: &mut [u8]) -> usize
 // Reads until the room is full or the input has ended. The answer is how many bytes that is.
 fn read_full<R: Read>(from: &mut R, room: &mut [u8]) -> io::Result<usize>
     ensures inside { IfOk result (λ got. got ≤ length room.new) }
+    ensures bytes { IfOk result (λ got. Consumes (R.remaining from.old) (R.remaining from.new) (take got room.new)) }
+    ensures end { IfOk result (λ got. got < length room.new → IsAtEnd (R.remaining from.new)) }
 {
     let mut got = 0;
     while got < room.len() {

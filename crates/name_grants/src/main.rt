@@ -2,8 +2,8 @@
 // batch leaves, and the listing of the registers; or why the batch comes back.
 #![tactic(auto)]
 
-ghost use Rattle.std.specs.Prelude.{◌≡◌, ◌+◌, ◌*◌, ◌≤◌, T, length, take, drop, IfOk, OnOk};
-ghost use Rattle.std.specs.Io.KnownBytes.{Appends};
+ghost use Rattle.std.specs.Prelude.{◌≡◌, ◌+◌, ◌*◌, ◌≤◌, ◌<◌, T, length, take, drop, IfOk, OnOk};
+ghost use Rattle.std.specs.Io.KnownBytes.{Appends, Consumes, IsAtEnd};
 ghost use Rattle.laws.specs.Lists.{over};
 ghost use Rattle.meaning.specs.Words.{words_of};
 ghost use Rattle.meaning.specs.Registers.{cells};
@@ -111,6 +111,8 @@ fn report_input(input: &[u8], out: &mut [u8]) -> usize
 // Reads until the room is full or the input has ended. The answer is how many bytes that is.
 fn read_full<R: Read>(from: &mut R, room: &mut [u8]) -> io::Result<usize>
     ensures inside { IfOk result (λ got. got ≤ length room.new) }
+    ensures bytes { IfOk result (λ got. Consumes (R.remaining from.old) (R.remaining from.new) (take got room.new)) }
+    ensures end { IfOk result (λ got. got < length room.new → IsAtEnd (R.remaining from.new)) }
 {
     let mut got = 0;
     while got < room.len() {

@@ -2,8 +2,8 @@
 // as the C calls give them.
 #![tactic(auto)]
 
-ghost use Rattle.std.specs.Prelude.{◌≡◌, ◌+◌, ◌≤◌, length, IfOk, OnOk};
-ghost use Rattle.std.specs.Io.KnownBytes.{Appends};
+ghost use Rattle.std.specs.Prelude.{◌≡◌, ◌+◌, ◌≤◌, ◌<◌, length, take, IfOk, OnOk};
+ghost use Rattle.std.specs.Io.KnownBytes.{Appends, Consumes, IsAtEnd};
 ghost use Rattle.laws.specs.Lists.{over};
 ghost use Rattle.meaning.specs.Exported.{most_bytes};
 ghost use Rattle.restore_listing.specs.Restored.{number_bytes, rewritten, restored, most_rewritten, most_restored};
@@ -83,6 +83,8 @@ fn report(text: &[u8], out: &mut [u8]) -> usize
 // Reads until the room is full or the input has ended. The answer is how many bytes that is.
 fn read_full<R: Read>(from: &mut R, room: &mut [u8]) -> io::Result<usize>
     ensures inside { IfOk result (λ got. got ≤ length room.new) }
+    ensures bytes { IfOk result (λ got. Consumes (R.remaining from.old) (R.remaining from.new) (take got room.new)) }
+    ensures end { IfOk result (λ got. got < length room.new → IsAtEnd (R.remaining from.new)) }
 {
     let mut got = 0;
     while got < room.len() {
