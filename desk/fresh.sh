@@ -42,7 +42,7 @@ sum() { sha256sum | cut -d ' ' -f 1; }
 # as it likes.
 sources_sum() {
     {
-        rt version && uname -m && cd "$root" &&
+        rt version </dev/null && uname -m && cd "$root" &&
             find crates crates.txt -path 'crates/*/out' -prune -o -type f -exec sha256sum {} + | LC_ALL=C sort
     } | sum
 }
