@@ -37,8 +37,6 @@ TOLD_APART["Rows-hold"] = "RowsHold"
 # Turned in these files alone, since elsewhere a function of src/ is called so.
 ONLY_IN = {"with_pair": ("meaning/proofs/Outputs.antt", "writer/proofs/Answers.antt")}
 LEM_IN = {"with_pair": "with_pair_lem"}
-# Words of English that comments have, and a lemma too.
-PROSE = set()
 # Names that no line declares as DECLARED sees it: of a `let`, of a case, of a parameter.
 LOCAL = "is-end no-j not-nil on-video on-3D in-video in-3D is-header split-m split-a the-house zero-os zero-adr cellLine marked-between is-setting"
 
@@ -107,7 +105,7 @@ def table():
     return rows
 
 
-def turn_words(text, rows, path, proof=False, comment=False):
+def turn_words(text, rows, path, proof=False):
     """The words of text by rows; right behind a dot only what a module or a record of the repository has."""
     here = dict(rows)
     for n, where in ONLY_IN.items():
@@ -119,8 +117,6 @@ def turn_words(text, rows, path, proof=False, comment=False):
     def one(m):
         w = m[0]
         if w not in here:
-            return w
-        if comment and w in PROSE:
             return w
         if m.start() > 0 and text[m.start() - 1] == ".":
             before = re.search(r"([^\s(){}.;,@\"«»]+)\.$", text[: m.start()])
@@ -144,7 +140,7 @@ def turn_comment(text, rows, path, proof):
     """Outside its quotes."""
     parts = re.split(r'("[^"]*")', text)
     rows = {n: to for n, to in rows.items() if "_" not in n}
-    return "".join(p if k % 2 else turn_words(p, rows, path, proof, True) for k, p in enumerate(parts))
+    return "".join(p if k % 2 else turn_words(p, rows, path, proof) for k, p in enumerate(parts))
 
 
 def turn_antt(text, rows, path):

@@ -2,6 +2,8 @@
 // empty state and the grants that the batches of bench/run need. bench/engine counts its instructions.
 #![tactic(auto)]
 
+ghost use Rattle.std.specs.Prelude.{◌≡◌, ◌≤◌, length, IfOk};
+
 use meaning::Answer;
 use std::io;
 use std::io::Read;
@@ -29,8 +31,34 @@ fn print(rt: HostRuntime, answer: Answer) -> io::Result<()> {
     println!(rt; "reason={} place={}", answer.reason, answer.place)
 }
 
+// As many bytes as are read; what stands behind them is not looked at.
+const ROOM: usize = 65536;
+
+// Where the array is made, so that no proof but this one has to look at 65,536 zeros.
+fn buffer() -> [u8; ROOM]
+    ensures whole { length result ≡ 65536 }
+{
+    [0; ROOM]
+}
+
+// Reads until the room is full or the input has ended. The answer is how many bytes that is.
+fn read_full<R: Read>(from: &mut R, room: &mut [u8]) -> io::Result<usize>
+    ensures inside { IfOk result (λ got. got ≤ length room.new) }
+{
+    let mut got = 0;
+    while got < room.len() {
+        let more = from.read(&mut room[got..])?;
+        if more == 0 {
+            return Ok(got);
+        }
+        got += more;
+    }
+    Ok(got)
+}
+
 fn main(rt: HostRuntime) -> io::Result<()> {
-    let mut bytes = Vec::new(rt.alloc());
-    rt.stdin().read_to_end(&mut bytes)?;
-    print(rt, feed(&bytes, &GRANTS))
+    let mut bytes = buffer();
+    let mut from = rt.stdin();
+    let got = read_full(&mut from, &mut bytes)?;
+    print(rt, feed(&bytes[..got], &GRANTS))
 }
