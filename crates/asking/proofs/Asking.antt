@@ -1,12 +1,12 @@
 -- What a word is told at each position, from what the code makes of it.
 -- Assumes nothing.
+use Rattle.std.specs.Prelude.{Some, None}
 use mathlib.Core.Path.{◌≡◌, refl, sym, ap, ◌∙◌}
 use mathlib.Core.Bool.{true, false}
 use Prim.Native.Nat.{ℕ, zero, suc}
 use Rattle.meaning.specs.declared.Cell.{Cell}
 use Rattle.meaning.specs.declared.SubAddress.{SubAddress}
 use Rattle.meaning.specs.declared.VideoOffset.{VideoOffset}
-use Rattle.meaning.specs.declared.Found.TheVariants.{At, Missing}
 use Rattle.meaning.specs.declared.Kind.{Kind}
 use Rattle.meaning.specs.declared.Kind.TheVariants.{Setting, Parameter, Video}
 use Rattle.meaning.specs.Words.{count, offset, sub_address, data24}
@@ -92,18 +92,18 @@ module _ {G : Group} (a : SubAddress) (d : ℕ) {j : Judged} (g : Terms) (s k w 
   pub parameter_taken : j.reason ≡ 0 → taken_as k s j.cell d ≡ asked_in g (Parameter s) (suc k) w
   unfolding judge next_kind next_left after write_at goes carries
   parameter_taken z =
-      let at : named s w ≡ At j.cell = rw (sym ea) (leads.found a ∙ cell_judged g d (cell_in G a) told z) in
+      let at : named s w ≡ Some j.cell = rw (sym ea) (leads.found a ∙ cell_judged g d (cell_in G a) told z) in
       taken g (Parameter s) (suc k) w (reason_of ∙ z) (rw (at, ed))
 
 -- ---- a word for a video register
 
 module _ (g : Terms) (o : VideoOffset) (k w : ℕ) where
   -- there is no register at the offset,
-  pub video_none : find_video o ≡ Missing → stopped bad_count ≡ asked_in g (Video o) (suc k) w
+  pub video_none : find_video o ≡ None → stopped bad_count ≡ asked_in g (Video o) (suc k) w
   unfolding asked_in judge word_reason
   video_none e = rw e
 
   -- and there is one
-  pub video_at : {c : Cell} → find_video o ≡ At c → {r p : ℕ} → r ≡ value_reason g (register_at c) w → p ≡ o.0 → {a : Asked} → a ≡ bound_for r p w k c → a ≡ asked_in g (Video o) (suc k) w
+  pub video_at : {c : Cell} → find_video o ≡ Some c → {r p : ℕ} → r ≡ value_reason g (register_at c) w → p ≡ o.0 → {a : Asked} → a ≡ bound_for r p w k c → a ≡ asked_in g (Video o) (suc k) w
   unfolding asked_in judge word_reason next_kind next_left after write_at goes carries
   video_at e er ep h = h ∙ rw (e, er, ep)

@@ -1,5 +1,7 @@
 -- Where a word is taken, the number that is kept for the next one tells its kind again.
 -- Assumes nothing.
+use Rattle.meaning.specs.declared.Cell.{Cell}
+use Rattle.std.specs.Prelude.{Option, Some, None}
 use mathlib.Core.Path.{◌≡◌, refl, ap, ◌∙◌}
 use mathlib.Core.Bool.{Bool, true, false, ◌&&◌, cond, and-false}
 use Prim.Native.Nat.{ℕ, zero, suc, ◌+◌, ◌/◌, ◌%◌, ◌^◌, ◌≤◌, ◌<◌}
@@ -11,8 +13,6 @@ use Rattle.laws.specs.Tests.{within}
 use Rattle.laws.proofs.Lists.{every_from}
 use Rattle.laws.proofs.Tests.{within_iff, true_of}
 use Rattle.meaning.specs.declared.VideoOffset.{VideoOffset}
-use Rattle.meaning.specs.declared.Found.{Found}
-use Rattle.meaning.specs.declared.Found.TheVariants.{At, Missing}
 use Rattle.meaning.specs.declared.Kind.TheVariants.{Setting, Parameter, Video}
 use Rattle.meaning.specs.Words.{offset, video_offset, following, para_adr, para_os, para_type, para_sub_type}
 use Rattle.meaning.specs.Registers.{first_video, end_video, cell, is_found, find_video}
@@ -44,7 +44,7 @@ in_range : (c : ℕ) → first_video ≤ c → c < end_video → (0x2208 ≤ (of
 unfolding offset_of every from
 in_range c l h = (within_iff 0x2208 0x33FC (offset_of (cell c)).0).0 (every_from (λ n. within 0x2208 0x33FC (offset_of (cell n)).0) first_video 17 tt c l (omega arith))
 
-found_by : (o : VideoOffset) → ¬ ((0x2208 ≤ o.0) × (o.0 ≤ 0x33FC)) → find_video o ≡ Missing
+found_by : (o : VideoOffset) → ¬ ((0x2208 ≤ o.0) × (o.0 ≤ 0x33FC)) → find_video o ≡ None
 found_by o n = no_video o (λ c l h e. n (let r = in_range c l h in (omega (arith, r.0), omega (arith, r.1))))
 
 pub found_range : (o : VideoOffset) → T (is_found (find_video o)) → (0x2208 ≤ o.0) × (o.0 ≤ 0x33FC)
@@ -81,11 +81,11 @@ module _ (g : Terms) where
       again_video (video_offset h) (omega (arith, r.0)) (omega (arith, r.1))
 
   -- behind a word of a run
-  video_next : (o : VideoOffset) (f : Found) (w : ℕ) → find_video o ≡ f → found_reason g 4 f w ≡ 0 → kind_from (o.0 + 4) ≡ Video (following o)
-  video_next o (At c) w e z =
+  video_next : (o : VideoOffset) (f : Option Cell) (w : ℕ) → find_video o ≡ f → found_reason g 4 f w ≡ 0 → kind_from (o.0 + 4) ≡ Video (following o)
+  video_next o (Some c) w e z =
       let r = found_range o (rw e tt) in
       again_video (following o) (omega arith) (omega (arith, r.1))
-  video_next o Missing w e z = absurd (omega arith)
+  video_next o None w e z = absurd (omega arith)
 
   -- behind a word of a packet, by what it stands under
   word_next : (u w : ℕ) (a b : Bool) → allowed u ≡ a → word_reason g (cond a (Parameter u) (cond b Setting (Video (video_offset u)))) w ≡ 0

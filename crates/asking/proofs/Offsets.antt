@@ -1,13 +1,12 @@
 -- What a header that is opened tells of its offset; so the header of a run of one word tells the video register at an offset.
 -- Assumes nothing.
+use Rattle.std.specs.Prelude.{Option, Some, None}
 use mathlib.Core.Path.{◌≡◌, refl, sym, ap, ◌∙◌}
 use Prim.Native.Nat.{ℕ, ◌+◌, ◌≤◌, ◌<◌}
 use native.Mathlib.Omega.{arith}
 use native.Mathlib.Decide.{ℕ_discrete}
 use Rattle.meaning.specs.declared.Cell.{Cell}
 use Rattle.meaning.specs.declared.VideoOffset.{VideoOffset}
-use Rattle.meaning.specs.declared.Found.{Found}
-use Rattle.meaning.specs.declared.Found.TheVariants.{At, Missing}
 use Rattle.meaning.specs.declared.Kind.{Kind}
 use Rattle.meaning.specs.declared.Kind.TheVariants.{Setting, Video}
 use Rattle.meaning.specs.Words.{count, offset, video_offset}
@@ -39,13 +38,13 @@ abbrev pub single : ℕ → ℕ
 single o = 0x10000 + o
 
 -- where the offset is a video register's, nothing speaks against such a header, and it opens a run
-opens_run : (h : ℕ) → count h ≡ 1 → {c : Cell} → find_video (video_offset h) ≡ At c → (header_reason h ≡ 0) × (kind_of h ≡ Video (video_offset h))
+opens_run : (h : ℕ) → count h ≡ 1 → {c : Cell} → find_video (video_offset h) ≡ Some c → (header_reason h ≡ 0) × (kind_of h ≡ Video (video_offset h))
 unfolding header_reason unless run_in kind_of
 opens_run h one e = let other = never_both (offset h) (rw e tt) in (rw (other, one, e), rw other)
 
-none_at : (f : Found) → ((c : Cell) → f ≡ At c → ⊥) → f ≡ Missing
-none_at (At c) out = absurd (out c refl)
-none_at Missing out = refl
+none_at : (f : Option Cell) → ((c : Cell) → f ≡ Some c → ⊥) → f ≡ None
+none_at (Some c) out = absurd (out c refl)
+none_at None out = refl
 
 module _ (u : ℕ) {o : ℕ} (e : o ≡ offset u) where
   one_word : count (single o) ≡ 1
@@ -57,11 +56,11 @@ module _ (u : ℕ) {o : ℕ} (e : o ≡ offset u) where
   same_offset = ap (λ (x : ℕ). record { 0 = x }) (omega arith)
 
   -- one that is refused has no video register's offset,
-  pub none_refused : {r : ℕ} → header_reason (single o) ≡ r → (r ≡ 0 → ⊥) → find_video (video_offset u) ≡ Missing
+  pub none_refused : {r : ℕ} → header_reason (single o) ≡ r → (r ≡ 0 → ⊥) → find_video (video_offset u) ≡ None
   none_refused q n = rw (← same_offset) (none_at _ (λ c f. n (sym q ∙ (opens_run (single o) one_word f).0)))
 
   -- nor has one that opens a setting
-  pub none_setting : kind_of (single o) ≡ Setting → find_video (video_offset u) ≡ Missing
+  pub none_setting : kind_of (single o) ≡ Setting → find_video (video_offset u) ≡ None
   none_setting k = rw (← same_offset) (none_at _ (λ c f. kinds_apart k (opens_run (single o) one_word f).1))
 
   module _ {c i m : ℕ} (run : Runs (single o) c i m) where
@@ -70,7 +69,7 @@ module _ (u : ℕ) {o : ℕ} (e : o ≡ offset u) where
     in_row = omega (arith, run.row, one_word)
 
     -- and that register is found at the offset
-    pub found_at : first_video ≤ c → c + m ≤ end_video → find_video (video_offset u) ≡ At (cell (c + i))
+    pub found_at : first_video ≤ c → c + m ≤ end_video → find_video (video_offset u) ≡ Some (cell (c + i))
     found_at low high =
         let inside = in_row in
         rw (← same_offset, run_offset (single o) run.kind) (named_video (c + i) (omega arith) (omega arith))

@@ -1,5 +1,6 @@
 -- The words of a body one after another: one law for every loop over them, and what the code asks of a word and stores of it.
 -- Assumes nothing.
+use Rattle.std.specs.Prelude.{Option, Some}
 use mathlib.Core.Path.{◌≡◌, refl, sym, ap, ◌∙◌}
 use mathlib.Core.List.{List}
 use Prim.Native.Nat.{ℕ, zero, suc, ◌+◌, ◌*◌, ◌-◌, ◌/◌, ◌≤◌, ◌<◌, ◌^◌}
@@ -11,8 +12,6 @@ use lib.Seq.{slice, slice-cons, slice_empty}
 use Rattle.meaning.specs.declared.Cell.{Cell}
 use Rattle.meaning.specs.declared.SubAddress.{SubAddress}
 use Rattle.meaning.specs.declared.VideoOffset.{VideoOffset}
-use Rattle.meaning.specs.declared.Found.{Found}
-use Rattle.meaning.specs.declared.Found.TheVariants.{At}
 use Rattle.meaning.specs.declared.Kind.{Kind}
 use Rattle.meaning.specs.declared.Kind.TheVariants.{Parameter, Video}
 use Rattle.meaning.specs.Words.{para_type, para_sub_type, sub_address, data24, words_of}
@@ -52,10 +51,10 @@ else_stop (suc r) i st more n = refl
 -- ---- one write
 
 -- the cells that a lookup finds are cells of the state
-inside : {f : Found} {c : Cell} → f ≡ At c → Of (Wide 24) f → c.0 < cells
+inside : {f : Option Cell} {c : Cell} → f ≡ Some c → Of (Wide 24) f → c.0 < cells
 inside e w = (rw e at w).0
 
-applied_at : (st : List ℕ) (v : ℕ) {f : Found} {c : Cell} {left : List ℕ} → f ≡ At c → left ≡ apply st (record { cell = c; value = v }) → left ≡ apply_all st (write_to f v)
+applied_at : (st : List ℕ) (v : ℕ) {f : Option Cell} {c : Cell} {left : List ℕ} → f ≡ Some c → left ≡ apply st (record { cell = c; value = v }) → left ≡ apply_all st (write_to f v)
 unfolding apply_all
 applied_at st v e h = rw e h
 
@@ -139,7 +138,7 @@ next_offset o from at w l = let e : o.0 + 4 * (at - from) + 4 ≡ o.0 + 4 * (at 
 
 -- word number j of a run from cell c on, which is for cell d
 module _ (g : Terms) (c j : ℕ) (low : 84 ≤ c) (high : c < cells) (row : j < row_from (cell c)) {d : ℕ} (is : d ≡ c + j) (w : ℕ) where
-  found : find_video (nth (offset_of (cell c)) j) ≡ At (cell d)
+  found : find_video (nth (offset_of (cell c)) j) ≡ Some (cell d)
   found = rw is (row_next (offset_of (cell c)) (cell c) (named_video c low high) j row)
 
   pub word_asked : {r : ℕ} → r ≡ value_reason g (register_at (cell d)) w → r ≡ word_reason g (Video (nth (offset_of (cell c)) j)) w

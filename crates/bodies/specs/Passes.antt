@@ -2,11 +2,10 @@
 -- Assumes nothing.
 use Rattle.std.specs.Prelude.{List, [], ◌∷◌, ℕ, zero, suc, ◌/◌, ◌≤◌, length}
 use Rattle.meaning.specs.declared.Kind.{Kind}
-use Rattle.meaning.specs.declared.Answer.{Answer}
 use Rattle.meaning.specs.Grants.{Terms}
 use Rattle.meaning.specs.State.{apply_all, write_to}
 use Rattle.meaning.specs.Positions.{after, goes, carries}
-use Rattle.meaning.specs.Answers.{success, answer}
+use Rattle.meaning.specs.Answers.{Answer, success, answer}
 use Rattle.meaning.specs.Reader.{word_reason}
 
 -- places of a batch in bytes: from a first one to before an end

@@ -9,7 +9,7 @@ use native.Mathlib.Omega.{arith}
 use lib.Dec.{lit<}
 use Rattle.laws.specs.Lists.{every, some, from}
 use Rattle.laws.proofs.Tests.{fails_of}
-use Rattle.meaning.specs.declared.Answer.{Answer}
+use Rattle.meaning.specs.Answers.{Answer}
 use Rattle.meaning.specs.declared.Memory.TheVariants.{Only}
 use Rattle.meaning.specs.Registers.{cell, target_group, stage, sample, overlay, scaler, sections, register_at, register_in, register_among}
 use Rattle.meaning.specs.Grants.{grants_of, terms_of, grants_fine, covers, granted}

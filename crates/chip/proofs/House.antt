@@ -15,7 +15,6 @@ use Rattle.laws.specs.Lists.{All, every, some, join, from}
 use Rattle.laws.specs.Tests.{one_of}
 use Rattle.laws.proofs.Lists.{all_append, every_from}
 use Rattle.laws.proofs.Tests.{beq_iff}
-use Rattle.meaning.specs.declared.Answer.{Answer}
 use Rattle.meaning.specs.declared.Cell.{Cell}
 use Rattle.meaning.specs.declared.Memory.{Memory}
 use Rattle.meaning.specs.declared.Memory.TheVariants.{Either, Only}
@@ -26,7 +25,7 @@ use Rattle.meaning.specs.Batch.{Fits}
 use Rattle.meaning.specs.State.{value_at, mark_at, is_mark, marked, count_in, cell_formed, well_formed, empty, all_writes}
 use Rattle.meaning.specs.Pair.{memory_of, pair_fine}
 use Rattle.meaning.specs.Reader.{unless, value_reason, read_answer, read_leaves}
-use Rattle.meaning.specs.Answers.{answer}
+use Rattle.meaning.specs.Answers.{Answer, answer}
 use Rattle.meaning.specs.Writer.{count_rows, packet_need, need_among, need_for, most_written, written, writable, write_answer}
 use Rattle.meaning.specs.Reasons.{MayHold, CellFine, Writable, WriterGives}
 use Rattle.meaning.proofs.Samples.{address_fits}

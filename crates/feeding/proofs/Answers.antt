@@ -13,11 +13,10 @@ use lib.Seq.{take-nil, take_all, take-append-le}
 use borrow.Author.Tests.{le-leb, lt-leb, ne_eqb}
 use Rattle.laws.proofs.Tests.{within_iff, true_of, false_of}
 use Rattle.meaning.specs.declared.Kind.TheVariants.{Setting}
-use Rattle.meaning.specs.declared.Answer.{Answer}
 use Rattle.meaning.specs.Grants.{Terms}
 use Rattle.meaning.specs.Pair.{pair_kept}
 use Rattle.meaning.specs.Positions.{position_at, writes_of}
-use Rattle.meaning.specs.Answers.{bad_offset, not_granted, bad_pair, engine_full, success, answer}
+use Rattle.meaning.specs.Answers.{Answer, bad_offset, not_granted, bad_pair, engine_full, success, answer}
 use Rattle.meaning.specs.Reader.{unless, judge, ended, batch_answer, paired, paired_answer}
 use Rattle.meaning.specs.Engine.{most_fed, word_refused, counted, fed_answer, closed_answer}
 use Rattle.feeding.proofs.Runs.{Passes, Refused, judge_refused, came, run_passed, not_refused, stuck, good_end, passes_on, stops_on}

@@ -6,7 +6,6 @@ use Prim.Native.Nat.{ℕ}
 use lib.ListN.{set}
 use Rattle.laws.specs.Lists.{All, every, some, from}
 use Rattle.laws.specs.Tests.{one_of}
-use Rattle.meaning.specs.declared.Answer.{Answer}
 use Rattle.meaning.specs.Words.{count, offset, para_adr, para_os, para_type, para_sub_type, sub_address, data24}
 use Rattle.meaning.specs.Registers.{location, target_group, stage, sample, sections, overlay, scaler, find, find_among, find_3d, find_offset, find_video, register_among, register_in, register_at}
 use Rattle.meaning.specs.Grants.{memory_fine, grant_fine, grants_fine, covers, granted}
@@ -15,7 +14,7 @@ use Rattle.meaning.specs.State.{cell_formed, well_formed, empty, apply, apply_al
 use Rattle.meaning.specs.Pair.{memory_of, pair_fine, wrote_pair, pair_kept}
 use Rattle.meaning.specs.Positions.{kind_of, after, next_kind, next_left, goes, carries, write_at, writes_from, writes_of}
 use Rattle.meaning.specs.Reader.{unless, run_in, header_reason, value_reason, word_reason, judge, run, batch_answer, paired_answer}
-use Rattle.meaning.specs.Answers.{answer}
+use Rattle.meaning.specs.Answers.{Answer, answer}
 use Rattle.meaning.specs.Engine.{word_refused, counted, fed_answer, closed_answer, Call, opening, feeding, closing, call_answer, engine_answer, engine_leaves}
 use Rattle.meaning.specs.Cases.{with, holding, grant_in, grant, type01, word51, single, addressed, addressed_in}
 

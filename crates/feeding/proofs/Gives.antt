@@ -13,12 +13,11 @@ use lib.Seq.{get_or-take, length-take-le}
 use Rattle.laws.proofs.Tests.{true_of, false_of, holds_of, fails_of}
 use Rattle.meaning.specs.declared.Kind.{Kind}
 use Rattle.meaning.specs.declared.Kind.TheVariants.{Setting}
-use Rattle.meaning.specs.declared.Answer.{Answer}
 use Rattle.meaning.specs.Grants.{Terms, terms_of, grants_fine}
 use Rattle.meaning.specs.State.{well_formed}
 use Rattle.meaning.specs.Pair.{pair_kept}
 use Rattle.meaning.specs.Positions.{next_kind, next_left, position_from, position_at, writes_of}
-use Rattle.meaning.specs.Answers.{answer}
+use Rattle.meaning.specs.Answers.{Answer, answer}
 use Rattle.meaning.specs.Reader.{unless, ended, batch_answer, paired, paired_answer}
 use Rattle.meaning.specs.Reasons.{GivenAt, NoneBefore, ReaderGives, EngineGives}
 use Rattle.meaning.specs.Engine.{most_fed, fed_answer, Call, opening, feeding, closing, fed_by, call_answer, engine_answer}

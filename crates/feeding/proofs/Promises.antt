@@ -11,11 +11,10 @@ use lib.ListN.{length}
 use lib.Seq.{take_all}
 use Rattle.laws.proofs.Tests.{true_of, holds_of}
 use Rattle.meaning.specs.declared.Kind.TheVariants.{Setting}
-use Rattle.meaning.specs.declared.Answer.{Answer}
 use Rattle.meaning.specs.Grants.{grants_fine, terms_of}
 use Rattle.meaning.specs.State.{well_formed, empty, apply_all}
 use Rattle.meaning.specs.Positions.{writes_of}
-use Rattle.meaning.specs.Answers.{bad_state, bad_grants, engine_full, success, answer, settle}
+use Rattle.meaning.specs.Answers.{Answer, bad_state, bad_grants, engine_full, success, answer, settle}
 use Rattle.meaning.specs.Reader.{batch_answer, paired_answer, read_answer, read_leaves}
 use Rattle.meaning.specs.Engine.{most_fed, word_refused, fed_answer, closed_answer, Call, opening, feeding, closing, call_answer, engine_answer, engine_leaves}
 use Rattle.meaning.proofs.Exactly.{read_batch}

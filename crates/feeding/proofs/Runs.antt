@@ -8,11 +8,10 @@ use native.Mathlib.Omega.{arith}
 use lib.ListN.{length}
 use Rattle.meaning.specs.declared.Kind.{Kind}
 use Rattle.meaning.specs.declared.Position.{Position}
-use Rattle.meaning.specs.declared.Answer.{Answer}
 use Rattle.meaning.specs.Grants.{Terms}
 use Rattle.meaning.specs.State.{Write}
 use Rattle.meaning.specs.Positions.{next_kind, next_left, position_from, write_at, writes_from}
-use Rattle.meaning.specs.Answers.{bad_offset, not_granted, answer}
+use Rattle.meaning.specs.Answers.{Answer, bad_offset, not_granted, answer}
 use Rattle.meaning.specs.Reader.{judge, onward, follow, ended, run}
 use Rattle.meaning.proofs.Places.{Good, good_next}
 use Rattle.meaning.proofs.Exactly.{judge_given, given_range}

@@ -11,12 +11,11 @@ use borrow.Author.Tests.{le-leb, lt-leb, ne_eqb}
 use lib.ListN.{length}
 use Rattle.meaning.specs.declared.Kind.TheVariants.{Setting}
 use Rattle.meaning.specs.declared.Position.{Position}
-use Rattle.meaning.specs.declared.Answer.{Answer}
 use Rattle.meaning.specs.Grants.{Terms}
 use Rattle.meaning.specs.State.{apply_all}
 use Rattle.meaning.specs.Pair.{pair_kept}
 use Rattle.meaning.specs.Positions.{position_from, position_at, writes_from, writes_of}
-use Rattle.meaning.specs.Answers.{engine_full, answer, settle}
+use Rattle.meaning.specs.Answers.{Answer, engine_full, answer, settle}
 use Rattle.meaning.specs.Reader.{judge, ended, paired, batch_answer}
 use Rattle.meaning.specs.Engine.{most_fed, fed_answer, closed_answer}
 use Rattle.meaning.proofs.States.{applied_append}

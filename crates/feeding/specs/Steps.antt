@@ -3,11 +3,10 @@
 use Rattle.std.specs.Prelude.{Bool, cond, List, ℕ, zero, suc, leb, eqb}
 use Rattle.meaning.specs.declared.Kind.{Kind}
 use Rattle.meaning.specs.declared.Kind.TheVariants.{Setting}
-use Rattle.meaning.specs.declared.Answer.{Answer}
 use Rattle.meaning.specs.Grants.{Terms}
 use Rattle.meaning.specs.State.{apply_all}
 use Rattle.meaning.specs.Positions.{next_kind, next_left, write_at}
-use Rattle.meaning.specs.Answers.{engine_full, success, answer, settle}
+use Rattle.meaning.specs.Answers.{Answer, engine_full, success, answer, settle}
 use Rattle.meaning.specs.Reader.{judge, ended, paired}
 use Rattle.meaning.specs.Engine.{most_fed}
 

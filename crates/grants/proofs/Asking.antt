@@ -1,5 +1,6 @@
 -- One kept grant after another: what the next one settles, and what is left to the rest.
 -- Assumes nothing.
+use Rattle.std.specs.Prelude.{Option, Some, None}
 use mathlib.Core.Path.{◌≡◌, ap}
 use mathlib.Core.Bool.{Bool, true, false, cond}
 use mathlib.Core.List.{List}
@@ -8,8 +9,6 @@ use native.Mathlib.Omega.{arith}
 use borrow.Author.Tests.{le-leb}
 use lib.ListN.{get_or}
 use Rattle.meaning.specs.declared.Memory.{Memory}
-use Rattle.meaning.specs.declared.Which.{Which}
-use Rattle.meaning.specs.declared.Which.TheVariants as by
 use Rattle.grants.specs.Kept.{number_in, lies_as, spans_at, covers_at, which_kept}
 
 -- what a grant that spans the address tells is whether it is in the memory
@@ -20,16 +19,16 @@ in_span starts lasts numbers i m a from to e = rw (le-leb (get_or starts i 0) a 
 
 module _ (starts lasts numbers : List ℕ) (m : Memory) (a : ℕ) where
   -- the first of the kept grants from i on to the last
-  abbrev up_to : ℕ → ℕ → Which
+  abbrev up_to : ℕ → ℕ → Option ℕ
   up_to i last = which_kept starts lasts numbers i (suc last - i) m a
 
   -- no grant covers anything
-  pub none : (i n : ℕ) → n ≡ 0 → by.Nobody ≡ which_kept starts lasts numbers i n m a
+  pub none : (i n : ℕ) → n ≡ 0 → None ≡ which_kept starts lasts numbers i n m a
   unfolding which_kept
   none i n e = rw e
 
   module _ {i last : ℕ} (l : i ≤ last) where
-    next : up_to i last ≡ cond (covers_at starts lasts numbers i m a) (by.Grant (number_in (get_or numbers i 0))) (up_to (i + 1) last)
+    next : up_to i last ≡ cond (covers_at starts lasts numbers i m a) (Some (number_in (get_or numbers i 0))) (up_to (i + 1) last)
     unfolding which_kept
     next =
         let one : i + 1 ≡ suc i = omega arith in
@@ -37,7 +36,7 @@ module _ (starts lasts numbers : List ℕ) (m : Memory) (a : ℕ) where
         rw (one, left)
 
     -- the next one covers the address
-    pub hit : {r : Bool} → r ≡ covers_at starts lasts numbers i m a → r ≡ true → by.Grant (number_in (get_or numbers i 0)) ≡ up_to i last
+    pub hit : {r : Bool} → r ≡ covers_at starts lasts numbers i m a → r ≡ true → Some (number_in (get_or numbers i 0)) ≡ up_to i last
     hit e t = rw (next, ← e, t)
 
     -- it does not, and the rest decides
@@ -49,7 +48,7 @@ module _ (starts lasts numbers : List ℕ) (m : Memory) (a : ℕ) where
   from_last i last e = rw e
 
   -- behind the last there is none
-  pub past_last : (last : ℕ) → by.Nobody ≡ up_to (last + 1) last
+  pub past_last : (last : ℕ) → None ≡ up_to (last + 1) last
   past_last last = none (last + 1) (suc last - (last + 1)) (omega arith)
 
   -- up to the last is up to the end

@@ -1,5 +1,6 @@
 -- Whatever is kept keeps some grants; and the test, beside what is covered.
 -- Assumes nothing.
+use Rattle.std.specs.Prelude.{Option, Some, None}
 use mathlib.Core.Path.{◌≡◌, refl, sym, ap, ◌∙◌}
 use mathlib.Core.Bool.{Bool, true, false, not, ◌&&◌, ◌||◌, or_assoc, or-false, and-true, and-false, and-or_distrib_left}
 use mathlib.Core.List.{List, [], ◌∷◌, ◌++◌}
@@ -11,8 +12,6 @@ use mir.Facts.{and_yes, yes_and}
 use borrow.Author.Tests.{eq-eqb}
 use Rattle.laws.specs.Lists.{some}
 use Rattle.meaning.specs.declared.Memory.TheVariants.{Either}
-use Rattle.meaning.specs.declared.Which.{Which}
-use Rattle.meaning.specs.declared.Which.TheVariants as by
 use Rattle.meaning.specs.Grants.{Grant, Terms, covers, granted, is_grant}
 use Rattle.numbering.proofs.Numbering.{some_first, granted_which}
 use Rattle.grants.specs.declared.Part.{Part}
@@ -98,16 +97,16 @@ covered_which starts lasts numbers i (suc n) a =
     ∙ rw (and-true, covered_which starts lasts numbers (suc i) n a)
 
 -- so an address that the test admits is granted; the address as the test was handed it
-pub as_granted : (g : Terms) (role : ℕ) (starts lasts numbers : List ℕ) (part : Part) (a : ℕ) {b : ℕ} {w : Which} → Granting g role starts lasts part → b ≡ a
+pub as_granted : (g : Terms) (role : ℕ) (starts lasts numbers : List ℕ) (part : Part) (a : ℕ) {b : ℕ} {w : Option ℕ} → Granting g role starts lasts part → b ≡ a
     → w ≡ which_in starts lasts numbers part Either b → is_grant w ≡ granted g.grants Either role a
 as_granted g role starts lasts numbers part a {b} given same e =
     ap is_grant e ∙ covered_which starts lasts numbers part.from (part.to - part.from) b ∙ sym (given b) ∙ ap (granted g.grants Either role) same
 
 -- which of the two it is
-pub by_nobody : {w : Which} → w ≡ by.Nobody → is_grant w ≡ false
+pub by_nobody : {w : Option ℕ} → w ≡ None → is_grant w ≡ false
 by_nobody e = rw e
 
-pub by_grant : {w : Which} {n : ℕ} → w ≡ by.Grant n → is_grant w ≡ true
+pub by_grant : {w : Option ℕ} {n : ℕ} → w ≡ Some n → is_grant w ≡ true
 by_grant e = rw e
 
 -- and what names the grants of a list keeps what they grant

@@ -1,10 +1,8 @@
 -- What kept grants grant: they stand by role, each as the first and the last address that it covers, with its number and its memory.
 -- Assumes nothing.
-use Rattle.std.specs.Prelude.{◌≡◌, Bool, true, false, ◌&&◌, ◌||◌, cond, List, ℕ, zero, suc, ◌+◌, ◌*◌, ◌-◌, ◌/◌, ◌%◌, ◌≤◌, ◌<◌, leb, eqb, get_or}
+use Rattle.std.specs.Prelude.{◌≡◌, Bool, true, false, ◌&&◌, ◌||◌, cond, List, ℕ, zero, suc, ◌+◌, ◌*◌, ◌-◌, ◌/◌, ◌%◌, ◌≤◌, ◌<◌, leb, eqb, get_or, Option, Some, None}
 use Rattle.meaning.specs.declared.Memory.{Memory}
 use Rattle.meaning.specs.declared.Memory.TheVariants.{Either, Only}
-use Rattle.meaning.specs.declared.Which.{Which}
-use Rattle.meaning.specs.declared.Which.TheVariants as by
 use Rattle.meaning.specs.Grants.{Terms, most_grants, granted, which}
 use Rattle.grants.specs.declared.Part.{Part}
 
@@ -43,14 +41,14 @@ unfoldable pub covers_at : List ℕ → List ℕ → List ℕ → ℕ → Memory
 covers_at starts lasts numbers i m a = spans_at starts lasts i a && lies_as m (get_or numbers i 0)
 
 -- the number of the first of the n kept grants from number i on that does
-unfoldable pub which_kept : List ℕ → List ℕ → List ℕ → ℕ → ℕ → Memory → ℕ → Which
-which_kept starts lasts numbers i zero m a = by.Nobody
+unfoldable pub which_kept : List ℕ → List ℕ → List ℕ → ℕ → ℕ → Memory → ℕ → Option ℕ
+which_kept starts lasts numbers i zero m a = None
 which_kept starts lasts numbers i (suc n) m a =
     let more = which_kept starts lasts numbers (suc i) n m a in
-    cond (covers_at starts lasts numbers i m a) (by.Grant (number_in (get_or numbers i 0))) more
+    cond (covers_at starts lasts numbers i m a) (Some (number_in (get_or numbers i 0))) more
 
 -- the first of a part
-abbrev pub which_in : List ℕ → List ℕ → List ℕ → Part → Memory → ℕ → Which
+abbrev pub which_in : List ℕ → List ℕ → List ℕ → Part → Memory → ℕ → Option ℕ
 which_in starts lasts numbers part m a = which_kept starts lasts numbers part.from (part.to - part.from) m a
 
 -- the part of a role

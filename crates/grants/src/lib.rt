@@ -2,11 +2,10 @@
 #![tactic(auto)]
 
 ghost use Rattle.std.specs.Prelude.{◌≡◌, ◌≤◌, ◌<◌};
-ghost use Rattle.meaning.specs.declared.Which.TheVariants as by;
 ghost use Rattle.meaning.specs.Grants.{most_grants};
 ghost use Rattle.grants.specs.Kept as kept;
 
-use meaning::{MOST_GRANTS, Memory, Which};
+use meaning::{MOST_GRANTS, Memory};
 
 // The first address of each kept grant, or the last of each.
 pub type Spans = [u32; MOST_GRANTS];
@@ -26,21 +25,51 @@ pub const IN_MEMORY_1: usize = 4;
 
 pub type Bounds = [usize; BOUNDS];
 
-// The kept grants of one role.
+// Where the kept grants of one role stand.
 #[derive(Clone, Copy)]
 pub struct Part {
     pub from: usize,
     pub to: usize,
 }
 
-// The part of a role.
-pub fn part_of(bounds: &Bounds, role: usize) -> Part
-    requires role { role < 4 }
-    ensures part { result ≡ kept.part_of bounds.now role }
-{
-    Part {
-        from: bounds[role],
-        to: bounds[4 + role],
+// A grant list as it is kept. No part reaches past the room there is.
+#[derive(Clone, Copy)]
+pub struct Kept<'a> {
+    pub starts: &'a Spans,
+    pub lasts: &'a Spans,
+    pub numbers: &'a Numbers,
+    pub bounds: &'a Bounds,
+    ghost bounded: { kept.Bounded bounds.now },
+}
+
+// The kept grants of one role.
+#[derive(Clone, Copy)]
+pub struct RoleGrants<'a> {
+    pub starts: &'a Spans,
+    pub lasts: &'a Spans,
+    pub numbers: &'a Numbers,
+    pub part: Part,
+    ghost inside: { part.to ≤ most_grants },
+}
+
+impl<'a> Kept<'a> {
+    // Those of a role.
+    pub fn part_of(self, role: usize) -> RoleGrants<'a>
+        requires role { role < 4 }
+        ensures starts { result.starts ≡ self.starts }
+        ensures lasts { result.lasts ≡ self.lasts }
+        ensures numbers { result.numbers ≡ self.numbers }
+        ensures part { result.part ≡ kept.part_of self.bounds.now role }
+    {
+        RoleGrants {
+            starts: self.starts,
+            lasts: self.lasts,
+            numbers: self.numbers,
+            part: Part {
+                from: self.bounds[role],
+                to: self.bounds[4 + role],
+            },
+        }
     }
 }
 
@@ -54,61 +83,46 @@ fn lies(memory: Memory, number: u8) -> bool
     }
 }
 
-// A kept grant covers the address, in the memory. Which memory it is in is asked last, so that a miss looks at two words alone.
-fn covers(
-    starts: &Spans,
-    lasts: &Spans,
-    numbers: &Numbers,
-    i: usize,
-    memory: Memory,
-    address: u32,
-) -> bool
-    requires inside { i < most_grants }
-    ensures covers { result ≡ kept.covers_at starts.now lasts.now numbers.now i memory address }
-{
-    if address < starts[i] {
-        return false;
-    }
-    if lasts[i] < address {
-        return false;
-    }
-    lies(memory, numbers[i])
-}
-
 // The grant of a number, by the byte that bears it. A parameter is known to be a byte, which an element is not.
-fn numbered(number: u8) -> Which
-    ensures grant { result ≡ by.Grant (kept.number_in number) }
+fn numbered(number: u8) -> usize
+    ensures grant { result ≡ kept.number_in number }
 {
-    Which::Grant((number % MEMORY_STEP) as usize)
+    (number % MEMORY_STEP) as usize
 }
 
-// THE TEST: the grant of the part that admits the address, in whichever memory or in one. The first that covers it is the lowest-numbered,
-// since a part keeps the order of the list. The last is asked behind the loop, so that nothing is made ready for a miss inside it; a number is
-// looked at where one covers.
-pub fn which(
-    starts: &Spans,
-    lasts: &Spans,
-    numbers: &Numbers,
-    part: Part,
-    memory: Memory,
-    address: u32,
-) -> Which
-    requires inside { part.to ≤ most_grants }
-    ensures which { result ≡ kept.which_in starts.now lasts.now numbers.now part memory address }
-{
-    if part.to <= part.from {
-        return Which::Nobody;
-    }
-    let last = part.to - 1;
-    let mut i = part.from;
-    while i < last {
-        if covers(starts, lasts, numbers, i, memory, address) {
-            return numbered(numbers[i]);
+impl RoleGrants<'_> {
+    // A kept grant covers the address, in the memory. Which memory it is in is asked last, so that a miss looks at two words alone.
+    fn covers(self, i: usize, memory: Memory, address: u32) -> bool
+        requires inside { i < most_grants }
+        ensures covers { result ≡ kept.covers_at self.starts.now self.lasts.now self.numbers.now i memory address }
+    {
+        if address < self.starts[i] {
+            return false;
         }
-        i += 1;
+        if self.lasts[i] < address {
+            return false;
+        }
+        lies(memory, self.numbers[i])
     }
-    if covers(starts, lasts, numbers, last, memory, address) {
-        return numbered(numbers[last]);
+
+    // THE TEST: the grant that admits the address, in whichever memory or in one. The first that covers it is the lowest-numbered, since a
+    // part keeps the order of the list. The last is asked behind the loop, so that nothing is made ready for a miss inside it; a number is
+    // looked at where one covers.
+    pub fn which(self, memory: Memory, address: u32) -> Option<usize>
+        ensures which { result ≡ kept.which_in self.starts.now self.lasts.now self.numbers.now self.part memory address }
+    {
+        if self.part.to <= self.part.from {
+            return None;
+        }
+        let last = self.part.to - 1;
+        for i in self.part.from..last {
+            if self.covers(i, memory, address) {
+                return Some(numbered(self.numbers[i]));
+            }
+        }
+        if self.covers(last, memory, address) {
+            return Some(numbered(self.numbers[last]));
+        }
+        None
     }
-    Which::Nobody
 }

@@ -1,5 +1,6 @@
 -- What a header that is opened tells.
 -- Assumes nothing.
+use Rattle.std.specs.Prelude.{None}
 use mathlib.Core.Path.{◌≡◌, refl, ap, ◌∙◌}
 use mathlib.Core.Bool.{Bool, true, false, ◌&&◌, cond}
 use Prim.Native.Nat.{ℕ, zero, suc, ◌+◌, ◌*◌, ◌-◌, ◌/◌, ◌%◌, ◌≤◌, ◌<◌}
@@ -10,7 +11,6 @@ use lib.Dec.{T, leb, eqb}
 use mir.Facts.{and_yes, leb_yes, eqb_yes, yes_eqb}
 use Rattle.laws.specs.Tests.{within}
 use Rattle.laws.proofs.Tests.{within_iff, true_of, false_of}
-use Rattle.meaning.specs.declared.Found.TheVariants.{Missing}
 use Rattle.meaning.specs.declared.Kind.TheVariants.{Video}
 use Rattle.meaning.specs.Words.{count, offset, video_offset}
 use Rattle.meaning.specs.Registers.{cell, find_video}
@@ -64,7 +64,7 @@ run_fine d k n e =
 
 module _ (h : ℕ) (other : offset h ≡ offset_3d → ⊥) where
   -- there is no video register at its offset
-  nowhere : find_video (video_offset h) ≡ Missing → header_reason h ≡ bad_offset
+  nowhere : find_video (video_offset h) ≡ None → header_reason h ≡ bad_offset
   unfolding header_reason unless
   nowhere none = rw (ne_eqb (offset h) offset_3d other, none)
 
@@ -111,7 +111,7 @@ module _ (h : ℕ) (other : offset h ≡ offset_3d → ⊥) where
       let inside : (offset h - o) / 4 < 7 = omega (arith, b) in
       opens_run h _ _ (in_a_row h other r (offset h - o) at inside) (λ e. (runs h other r (offset h - o) at inside e, s))
 
-  of_none : find_video (video_offset h) ≡ Missing → Scaled h (record { base = cell 87; role = 2; distance = 1 })
+  of_none : find_video (video_offset h) ≡ None → Scaled h (record { base = cell 87; role = 2; distance = 1 })
   unfolding run_reason unless
   of_none e = (nowhere h other e, λ z. omega arith)
 

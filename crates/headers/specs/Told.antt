@@ -1,9 +1,8 @@
 -- What is told by a header that is opened and by the group of a setting. proofs/Openings and proofs/Groups show that it is so.
 -- Assumes nothing.
-use Rattle.std.specs.Prelude.{◌≡◌, true, false, cond, ℕ, ◌+◌, ◌*◌, ◌≤◌, ◌<◌, eqb}
+use Rattle.meaning.specs.declared.Cell.{Cell}
+use Rattle.std.specs.Prelude.{◌≡◌, true, false, cond, ℕ, ◌+◌, ◌*◌, ◌≤◌, ◌<◌, eqb, Option, Some, None}
 use Rattle.meaning.specs.declared.SubAddress.{SubAddress}
-use Rattle.meaning.specs.declared.Found.{Found}
-use Rattle.meaning.specs.declared.Found.TheVariants.{At, Missing}
 use Rattle.meaning.specs.declared.Kind.TheVariants as kinds
 use Rattle.meaning.specs.Words.{count, para_type, para_sub_type}
 use Rattle.meaning.specs.Registers.{cell, find_3d}
@@ -35,11 +34,11 @@ Opens h (Scaler s) = Runs h s.base.0 s.index 7 × rows.Scaler s.base.0 s.role
 -- ---- groups
 
 -- the cell that a sub-address names in a group
-unfoldable pub cell_in : Group → SubAddress → Found
-cell_in Target a = cond (eqb a.0 0x3F) (At (cell 0)) (ranged 0x50 3 1 a.0)
+unfoldable pub cell_in : Group → SubAddress → Option Cell
+cell_in Target a = cond (eqb a.0 0x3F) (Some (cell 0)) (ranged 0x50 3 1 a.0)
 cell_in (Stage c) a = ranged 0x50 2 c.0 a.0
 cell_in (Sample c) a = ranged 0x30 3 c.0 a.0
-cell_in Nothing a = Missing
+cell_in Nothing a = None
 
 -- a group of the table
 pub data IsGroup : Group → Type 0 where

@@ -14,12 +14,11 @@ use Rattle.laws.proofs.Bits.{or_four}
 use Rattle.laws.proofs.Tests.{holds_of}
 use Rattle.meaning.specs.declared.Kind.{Kind}
 use Rattle.meaning.specs.declared.Kind.TheVariants.{Setting}
-use Rattle.meaning.specs.declared.Answer.{Answer}
 use Rattle.meaning.specs.Words.{words_of, bytes_of}
 use Rattle.meaning.specs.Grants.{Terms, terms_of, grants_fine}
 use Rattle.meaning.specs.State.{well_formed, apply_all}
 use Rattle.meaning.specs.Positions.{next_kind, next_left, writes_of}
-use Rattle.meaning.specs.Answers.{bad_state, bad_grants, bad_buffer, success, number_of, provided, settle, bad_pair, answer}
+use Rattle.meaning.specs.Answers.{Answer, bad_state, bad_grants, bad_buffer, success, number_of, provided, settle, bad_pair, answer}
 use Rattle.meaning.specs.Pair.{pair_kept}
 use Rattle.meaning.specs.Reader.{judge, follow, run, batch_answer, read_answer, read_leaves, unless, paired_answer}
 use Rattle.meaning.specs.Writer.{written, write_answer}

@@ -1,5 +1,6 @@
 -- Grants that are kept tell which of them admits an address, and so cover what they grant.
 -- Assumes nothing.
+use Rattle.std.specs.Prelude.{Option, Some, None}
 use mathlib.Core.Path.{◌≡◌, refl, sym, ap, ◌∙◌}
 use mathlib.Core.Logic.{◌≢◌}
 use mathlib.Core.Bool.{Bool, ◌&&◌, true, false, cond, and-false, and_comm}
@@ -15,8 +16,6 @@ use Rattle.laws.specs.Lists.{some}
 use Rattle.laws.proofs.Tests.{holds_of}
 use Rattle.meaning.specs.declared.Memory.{Memory}
 use Rattle.meaning.specs.declared.Memory.TheVariants.{Either, Only}
-use Rattle.meaning.specs.declared.Which.{Which}
-use Rattle.meaning.specs.declared.Which.TheVariants as by
 use Rattle.meaning.specs.Grants.{Grant, most_grants, grants_of, grants_fine, lies_in, covers, granted, which_from, terms_of}
 use Rattle.grants.specs.Kept.{Keeps, Bounded, Names, bearing, number_in, lies_as, spans_at, covers_at, which_kept, which_in, part_of}
 use Rattle.numbering.proofs.Grants.{length_grants, fine_list}
@@ -46,23 +45,23 @@ empty start len reach a short =
 -- ---- the first of two
 
 -- the first that is told, else the second
-abbrev or_else : Which → Which → Which
-or_else (by.Grant n) w = by.Grant n
-or_else by.Nobody w = w
+abbrev or_else : Option ℕ → Option ℕ → Option ℕ
+or_else (Some n) w = Some n
+or_else None w = w
 
 -- a grant, if it covers the address
-abbrev only_if : Bool → ℕ → Which
-only_if b n = cond b (by.Grant n) by.Nobody
+abbrev only_if : Bool → ℕ → Option ℕ
+only_if b n = cond b (Some n) None
 
-else_nobody : (w : Which) → or_else w by.Nobody ≡ w
-else_nobody (by.Grant n) = refl
-else_nobody by.Nobody = refl
+else_nobody : (w : Option ℕ) → or_else w None ≡ w
+else_nobody (Some n) = refl
+else_nobody None = refl
 
-else_assoc : (u v w : Which) → or_else (or_else u v) w ≡ or_else u (or_else v w)
-else_assoc (by.Grant n) v w = refl
-else_assoc by.Nobody v w = refl
+else_assoc : (u v w : Option ℕ) → or_else (or_else u v) w ≡ or_else u (or_else v w)
+else_assoc (Some n) v w = refl
+else_assoc None v w = refl
 
-cond_else : (b : Bool) (n : ℕ) (w : Which) → cond b (by.Grant n) w ≡ or_else (only_if b n) w
+cond_else : (b : Bool) (n : ℕ) (w : Option ℕ) → cond b (Some n) w ≡ or_else (only_if b n) w
 cond_else true n w = refl
 cond_else false n w = refl
 
@@ -127,7 +126,7 @@ memory_borne (Only m) n g few = let e : bearing n g.memory / 64 ≡ g.memory = o
 -- ---- grants kept
 
 -- what the part of a role tells
-abbrev held : Kept → ℕ → Memory → ℕ → Which
+abbrev held : Kept → ℕ → Memory → ℕ → Option ℕ
 held k role m a = which_in k.starts k.lasts k.numbers (part_of k.bounds role) m a
 
 -- the room for addresses and numbers
@@ -227,7 +226,7 @@ all_gained n (g ∷ gs) few k ready wide m role low high a =
 
 -- no part tells anything at first
 none_held : (gs : List Grant) (starts lasts numbers : List ℕ) (role : ℕ) → 1 ≤ role → role < 4 → (m : Memory) (a : ℕ)
-    → which_in starts lasts numbers (part_of (beginnings gs) role) m a ≡ by.Nobody
+    → which_in starts lasts numbers (part_of (beginnings gs) role) m a ≡ None
 unfolding which_kept
 none_held gs starts lasts numbers role low high m a =
     let none : get_or (beginnings gs) role 0 - get_or (beginnings gs) role 0 ≡ 0 = omega arith in

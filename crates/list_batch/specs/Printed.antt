@@ -2,10 +2,9 @@
 -- place of the listing".
 -- Assumes nothing.
 use Rattle.std.specs.Prelude.{cond, List, [], ◌∷◌, ◌++◌, ℕ, ◌/◌, ◌%◌, leb, eqb}
-use Rattle.meaning.specs.declared.Answer.{Answer}
 use Rattle.meaning.specs.Words.{words_of, bytes_of}
 use Rattle.meaning.specs.State.{empty}
-use Rattle.meaning.specs.Answers.{success}
+use Rattle.meaning.specs.Answers.{Answer, success}
 use Rattle.meaning.specs.Text.{ascii}
 use Rattle.meaning.specs.Lister.{digit, listing}
 use Rattle.meaning.specs.Exported.{exported_read, exported_read_leaves}

@@ -7,10 +7,9 @@ use Prim.Native.Nat.{ℕ, zero, suc, ◌+◌, ◌-◌, ◌≤◌, ◌<◌}
 use native.Mathlib.Omega.{arith}
 use lib.ListN.{length, drop, get_or, set, drop_of_length-le, length-drop, length-set}
 use lib.Seq.{drop-drop, drop-cons}
-use Rattle.meaning.specs.declared.Answer.{Answer}
 use Rattle.meaning.specs.Registers.{cells, first_video, cell}
 use Rattle.meaning.specs.State.{state_words, apply, apply_all}
-use Rattle.meaning.specs.Answers.{success, not_listing, answer}
+use Rattle.meaning.specs.Answers.{Answer, success, not_listing, answer}
 use Rattle.meaning.specs.Lister.{hex}
 use Rattle.meaning.specs.ListingReader.{form_of, table_lines, Outcome, refused, further, with, read_lines}
 use Rattle.listings.specs.Lines.{name_3d, name_video, line_for, lines_from, furthest_of}

@@ -9,10 +9,9 @@ use native.Mathlib.Omega.{arith}
 use borrow.Author.Tests.{eq-eqb, ne_eqb}
 use lib.ListN.{length, drop, length-replicate}
 use Rattle.laws.specs.Lists.{over}
-use Rattle.meaning.specs.declared.Answer.{Answer}
 use Rattle.meaning.specs.Words.{words_of, bytes_of}
 use Rattle.meaning.specs.State.{state_words, empty, Write, apply_all}
-use Rattle.meaning.specs.Answers.{bad_state, not_listing, answer, settle}
+use Rattle.meaning.specs.Answers.{Answer, bad_state, not_listing, answer, settle}
 use Rattle.meaning.specs.ListingReader.{along, head_form, table_lines, Outcome, refused, further, read_lines, read_first, read_text, listing_answer, listing_leaves}
 use Rattle.meaning.proofs.Bytes.{length_words, settle_done, settle_refused}
 use Rattle.meaning.proofs.States.{length_applied}

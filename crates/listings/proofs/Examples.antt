@@ -5,9 +5,8 @@ use mathlib.Core.List.{List, [], ◌∷◌}
 use Prim.Native.Nat.{ℕ}
 use Prim.Native.String.{String}
 use Rattle.laws.specs.Lists.{All, from}
-use Rattle.meaning.specs.declared.Answer.{Answer}
 use Rattle.meaning.specs.Registers.{target_group, stage, sample, overlay, scaler, sections}
-use Rattle.meaning.specs.Answers.{answer}
+use Rattle.meaning.specs.Answers.{Answer, answer}
 use Rattle.meaning.specs.Text.{ascii}
 use Rattle.meaning.specs.Lister.{digit, hex}
 use Rattle.meaning.specs.ListingReader.{is_hex, along, digit_worth, worth, table_lines, read_lines, read_count, read_first, read_text}

@@ -1,5 +1,6 @@
 -- What permitted packets store: one law for any property of their writes.
 -- Assumes nothing.
+use Rattle.std.specs.Prelude.{Option, Some, None}
 use mathlib.Core.Path.{◌≡◌}
 use mathlib.Core.List.{List, [], ◌∷◌}
 use Prim.Native.Nat.{ℕ, suc, ◌+◌, ◌<◌, ◌^◌}
@@ -10,8 +11,6 @@ use Rattle.laws.proofs.Lists.{all_append, all_split}
 use Rattle.meaning.specs.declared.Cell.{Cell}
 use Rattle.meaning.specs.declared.SubAddress.{SubAddress}
 use Rattle.meaning.specs.declared.VideoOffset.{VideoOffset}
-use Rattle.meaning.specs.declared.Found.{Found}
-use Rattle.meaning.specs.declared.Found.TheVariants.{At, Missing}
 use Rattle.meaning.specs.Words.{video_offset, following, para_type, para_sub_type, sub_address, data24}
 use Rattle.meaning.specs.Registers.{cells, Row, Section, of_3d, of_video, sections, find_3d, find_video, register_at}
 use Rattle.meaning.specs.Grants.{Terms}
@@ -60,13 +59,13 @@ data_small p = omega arith
 module _ (g : Terms) (P : Write → Type 0) (W : ℕ → Type 0)
     (on_3d : (c : Cell) (v : ℕ) → Wide 24 c → v < 2 ^ 24 → Fits g (register_at c) v → P (record { cell = c; value = v }))
     (on_video : (c : Cell) (v : ℕ) → Wide 32 c → W v → Fits g (register_at c) v → P (record { cell = c; value = v })) where
-  each_3d : (f : Found) (v : ℕ) → Of (Wide 24) f → v < 2 ^ 24 → Stands g f v → All P (write_to f v)
-  each_3d (At c) v l n s = (on_3d c v l n s, tt)
-  each_3d Missing v l n s = tt
+  each_3d : (f : Option Cell) (v : ℕ) → Of (Wide 24) f → v < 2 ^ 24 → Stands g f v → All P (write_to f v)
+  each_3d (Some c) v l n s = (on_3d c v l n s, tt)
+  each_3d None v l n s = tt
 
-  each_video : (f : Found) (v : ℕ) → Of (Wide 32) f → W v → Stands g f v → All P (write_to f v)
-  each_video (At c) v l n s = (on_video c v l n s, tt)
-  each_video Missing v l n s = tt
+  each_video : (f : Option Cell) (v : ℕ) → Of (Wide 32) f → W v → Stands g f v → All P (write_to f v)
+  each_video (Some c) v l n s = (on_video c v l n s, tt)
+  each_video None v l n s = tt
 
   each_parameter : (s : ℕ) (ps : List ℕ) → All (ParameterStands g s) ps → All P (writes_3d s ps)
   unfolding writes_3d

@@ -1,5 +1,6 @@
 -- Each reason of the reader is given exactly then: the word's reason, and the first word that has one.
 -- Assumes nothing.
+use Rattle.std.specs.Prelude.{Option, Some, None}
 use mathlib.Core.Path.{◌≡◌, refl, sym, ap, ◌∙◌, subst}
 use mathlib.Core.Logic.{◌↔◌, ◌≢◌, ◌⊎◌, inl, inr}
 use mathlib.Core.Bool.{Bool, true, false, ◌&&◌, cond}
@@ -16,11 +17,8 @@ use Rattle.laws.specs.Tests.{within}
 use Rattle.laws.proofs.Tests.{within_iff, true_of, false_of, holds_of, fails_of}
 use Rattle.meaning.specs.declared.Cell.{Cell}
 use Rattle.meaning.specs.declared.VideoOffset.{VideoOffset}
-use Rattle.meaning.specs.declared.Found.{Found}
-use Rattle.meaning.specs.declared.Found.TheVariants.{At, Missing}
 use Rattle.meaning.specs.declared.Kind.{Kind}
 use Rattle.meaning.specs.declared.Kind.TheVariants.{Setting, Parameter, Video}
-use Rattle.meaning.specs.declared.Answer.{Answer}
 use Rattle.meaning.specs.Words.{count, offset, video_offset, following}
 use Rattle.meaning.specs.Registers.{is_found, find_video, register_at}
 use Rattle.meaning.specs.Grants.{Terms, terms_of, grants_fine}
@@ -28,7 +26,7 @@ use Rattle.meaning.specs.Batch.{reaches, offset_3d, most_3d, allowed, named, Cut
 use Rattle.meaning.specs.State.{well_formed}
 use Rattle.meaning.specs.Pair.{pair_kept, Permitted}
 use Rattle.meaning.specs.Positions.{next_kind, next_left, position_from, position_at, goes, carries, writes_of}
-use Rattle.meaning.specs.Answers.{answer, provided}
+use Rattle.meaning.specs.Answers.{Answer, answer, provided}
 use Rattle.meaning.specs.Reader.{unless, run_in, reason_3d, reason_video, header_reason, value_reason, found_reason, word_reason, judge, onward, follow, ended, run, batch_answer, paired, paired_answer, read_answer}
 use Rattle.meaning.specs.Reasons.{VideoRun, Given, by_bad_offset, by_bad_count, by_bad_run, by_bad_setting, by_no_register, by_bit_set, by_bad_value, by_not_granted, NoneBefore, ReaderGives}
 use Rattle.meaning.specs.Reasons.ReaderGives.{by_bad_state, by_bad_grants, at_word, by_ends_inside, by_bad_pair, accepted}
@@ -98,7 +96,7 @@ module _ (g : Terms) where
   given_header h r true o e = given_3d h r (eqb-true (offset h) offset_3d o) e
   given_header h r false o e = given_video h r (eqb-false (offset h) offset_3d o) e
 
-  given_value : {kind : Kind} {k w : ℕ} (c : Cell) (r : ℕ) → goes kind w ≡ At c → value_reason g (register_at c) (carries kind w) ≡ suc r → Given g kind (suc k) w (suc r)
+  given_value : {kind : Kind} {k w : ℕ} (c : Cell) (r : ℕ) → goes kind w ≡ Some c → value_reason g (register_at c) (carries kind w) ≡ suc r → Given g kind (suc k) w (suc r)
   unfolding value_reason
   given_value {kind} {k} {w} c r at e =
       let v = carries kind w in
@@ -114,10 +112,10 @@ module _ (g : Terms) where
       ]
 
   -- by the register that the word goes to
-  given_found : {kind : Kind} {k w : ℕ} (none r : ℕ) (f : Found) → goes kind w ≡ f → found_reason g none f (carries kind w) ≡ suc r
-      → (f ≡ Missing → none ≡ suc r → Given g kind (suc k) w (suc r)) → Given g kind (suc k) w (suc r)
-  given_found none r (At c) at e missing = given_value c r at e
-  given_found none r Missing at e missing = missing refl e
+  given_found : {kind : Kind} {k w : ℕ} (none r : ℕ) (f : Option Cell) → goes kind w ≡ f → found_reason g none f (carries kind w) ≡ suc r
+      → (f ≡ None → none ≡ suc r → Given g kind (suc k) w (suc r)) → Given g kind (suc k) w (suc r)
+  given_found none r (Some c) at e missing = given_value c r at e
+  given_found none r None at e missing = missing refl e
 
   given_word : (kind : Kind) (k w r : ℕ) → Good kind (suc k) → word_reason g kind w ≡ suc r → Given g kind (suc k) w (suc r)
   unfolding word_reason goes carries run_in
@@ -133,7 +131,7 @@ module _ (g : Terms) where
 
   -- ---- and back
 
-  word_value : (kind : Kind) (w : ℕ) (c : Cell) → goes kind w ≡ At c → word_reason g kind w ≡ value_reason g (register_at c) (carries kind w)
+  word_value : (kind : Kind) (w : ℕ) (c : Cell) → goes kind w ≡ Some c → word_reason g kind w ≡ value_reason g (register_at c) (carries kind w)
   unfolding word_reason goes carries
   word_value Setting w c e = absurd (let z : ◌≡◌ {A = ℕ} 0 1 = cc in omega arith)
   word_value (Parameter s) w c e = rw e

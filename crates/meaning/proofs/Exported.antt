@@ -9,14 +9,13 @@ use native.Mathlib.Omega.{arith}
 use lib.Dec.{T}
 use lib.ListN.{length, drop, set}
 use Rattle.laws.specs.Lists.{All, every, join, over}
-use Rattle.meaning.specs.declared.Answer.{Answer}
 use Rattle.meaning.specs.Words.{Byte, Word, words_of, bytes_of}
 use Rattle.meaning.specs.Registers.{cells}
 use Rattle.meaning.specs.Grants.{Terms}
 use Rattle.meaning.specs.Batch.{Packet, Cut}
 use Rattle.meaning.specs.State.{Write, apply, apply_all, all_writes}
 use Rattle.meaning.specs.Positions.{writes_of}
-use Rattle.meaning.specs.Answers.{provided}
+use Rattle.meaning.specs.Answers.{Answer, provided}
 use Rattle.meaning.specs.Reader.{read_answer}
 use Rattle.meaning.specs.Writer.{write_answer}
 use Rattle.meaning.specs.Lister.{list_answer, list_leaves}

@@ -1,5 +1,6 @@
 -- Each reason of the writer and of the lister is given exactly then; a listing is at most 2,568 bytes.
 -- Assumes nothing.
+use Rattle.std.specs.Prelude.{Option, Some, None}
 use mathlib.Core.Path.{◌≡◌, refl, sym, ap, ap₂, ◌∙◌}
 use mathlib.Core.Bool.{Bool, true, false, cond}
 use mathlib.Core.Logic.{◌↔◌}
@@ -17,14 +18,11 @@ use Rattle.laws.proofs.Tests.{true_of, false_of, holds_of, fails_of}
 use Rattle.meaning.specs.declared.Cell.{Cell}
 use Rattle.meaning.specs.declared.SubAddress.{SubAddress}
 use Rattle.meaning.specs.declared.VideoOffset.{VideoOffset}
-use Rattle.meaning.specs.declared.Found.{Found}
-use Rattle.meaning.specs.declared.Found.TheVariants.{At, Missing}
-use Rattle.meaning.specs.declared.Answer.{Answer}
 use Rattle.meaning.specs.Registers.{cells, cell, Row, Section, of_3d, of_video, target_group, stage, sample, overlay, scaler, sections}
 use Rattle.meaning.specs.Grants.{Terms, terms_of, grants_fine}
 use Rattle.meaning.specs.State.{value_at, marked, one, count_in, marked_cells, well_formed, empty}
 use Rattle.meaning.specs.Pair.{target_cell, pair_fine}
-use Rattle.meaning.specs.Answers.{answer, provided}
+use Rattle.meaning.specs.Answers.{Answer, answer, provided}
 use Rattle.meaning.specs.Reader.{read_answer, read_leaves}
 use Rattle.meaning.specs.Writer.{written, count_rows, lowest_bad, with_pair, except_at, write_answer}
 use Rattle.meaning.specs.Text.{ascii}
@@ -47,7 +45,7 @@ module _ (st grants : List ℕ) (room : ℕ) where
   need = length (written st)
 
   -- the answer by what its tests come to
-  abbrev by : Bool → Bool → Found → Bool → Answer
+  abbrev by : Bool → Bool → Option Cell → Bool → Answer
   by b c f d = provided b 1 (provided c 2 (except_at f (provided d 11 (answer 0 need))))
 
   -- the lowest cell that is refused, for its value or for the pair
@@ -56,57 +54,57 @@ module _ (st grants : List ℕ) (room : ℕ) where
     pub bad : ¬ Writable g st (cell c)
     pub before : (d : ℕ) → d < c → Writable g st (cell d)
 
-  abbrev Refused : Found → Type 0
-  Refused (At c) = RefusedAt c.0
-  Refused Missing = (c : ℕ) → c < cells → Writable g st (cell c)
+  abbrev Refused : Option Cell → Type 0
+  Refused (Some c) = RefusedAt c.0
+  Refused None = (c : ℕ) → c < cells → Writable g st (cell c)
 
   -- a bad pair, where no cell before it is refused
   pair_at : pair_fine g st ≡ false → ((d : ℕ) → d < 1 → CellFine g st (cell d)) → RefusedAt 1
   pair_at e h =
       record { to = omega arith; bad = λ w. fails_of e (w.pair refl); before = λ d k. record { value = h d k; pair = λ z. absurd (omega arith) } }
 
-  below_pair : pair_fine g st ≡ false → (c : Cell) → LowestIs g st 0 cells c.0 → (b : Bool) → eqb c.0 0 ≡ b → Refused (cond b (At c) (At target_cell))
+  below_pair : pair_fine g st ≡ false → (c : Cell) → LowestIs g st 0 cells c.0 → (b : Bool) → eqb c.0 0 ≡ b → Refused (cond b (Some c) (Some target_cell))
   below_pair e c low true z =
       let zero = eqb-true c.0 0 z in
       record { to = low.to; bad = λ w. low.bad w.value; before = λ d k. absurd (omega arith) }
   below_pair e c low false z = pair_at e (λ d k. low.before d (omega arith) (let n = eqb-false c.0 0 z in omega arith))
 
-  with_pair_lem : (b : Bool) → pair_fine g st ≡ b → (f : Found) → Lowest g st 0 cells f → Refused (with_pair b f)
-  with_pair_lem true e (At c) low =
+  with_pair_lem : (b : Bool) → pair_fine g st ≡ b → (f : Option Cell) → Lowest g st 0 cells f → Refused (with_pair b f)
+  with_pair_lem true e (Some c) low =
       record { to = low.to; bad = λ w. low.bad w.value; before = λ d k. record { value = low.before d (omega arith) k; pair = λ z. holds_of e } }
-  with_pair_lem true e Missing low = λ c k. record { value = low c (omega arith) k; pair = λ z. holds_of e }
-  with_pair_lem false e (At c) low = below_pair e c low (eqb c.0 0) refl
-  with_pair_lem false e Missing low = pair_at e (λ d k. low d (omega arith) (omega arith))
+  with_pair_lem true e None low = λ c k. record { value = low c (omega arith) k; pair = λ z. holds_of e }
+  with_pair_lem false e (Some c) low = below_pair e c low (eqb c.0 0) refl
+  with_pair_lem false e None low = pair_at e (λ d k. low d (omega arith) (omega arith))
 
-  abbrev found : Found
+  abbrev found : Option Cell
   found = with_pair (pair_fine g st) (lowest_bad g st 0 cells)
 
   found_told : Refused found
   found_told = with_pair_lem (pair_fine g st) refl (lowest_bad g st 0 cells) (lowest_told g st 0 cells)
 
-  told_as : (b c : Bool) (f : Found) (d : Bool) → well_formed st ≡ b → grants_fine grants ≡ c → Refused f → leb need room ≡ d
+  told_as : (b c : Bool) (f : Option Cell) (d : Bool) → well_formed st ≡ b → grants_fine grants ≡ c → Refused f → leb need room ≡ d
       → WriterGives st grants room (by b c f d).reason (by b c f d).place
   told_as false c f d e h low l = WriterGives.by_bad_state (fails_of e)
   told_as true false f d e h low l = WriterGives.by_bad_grants (holds_of e) (fails_of h)
-  told_as true true (At c) d e h low l = WriterGives.by_not_writable (holds_of e) (holds_of h) low.to low.bad low.before
-  told_as true true Missing true e h low l = WriterGives.done (holds_of e) (holds_of h) low (leb-true need room l)
-  told_as true true Missing false e h low l = WriterGives.by_no_room (holds_of e) (holds_of h) low (leb-false need room l)
+  told_as true true (Some c) d e h low l = WriterGives.by_not_writable (holds_of e) (holds_of h) low.to low.bad low.before
+  told_as true true None true e h low l = WriterGives.done (holds_of e) (holds_of h) low (leb-true need room l)
+  told_as true true None false e h low l = WriterGives.by_no_room (holds_of e) (holds_of h) low (leb-false need room l)
 
   pub write_told : WriterGives st grants room (write_answer st grants room).reason (write_answer st grants room).place
   unfolding write_answer
   write_told = told_as (well_formed st) (grants_fine grants) found (leb need room) refl refl found_told refl
 
-  lowest_at : (f : Found) (c : ℕ) → Refused f → c < cells → ¬ Writable g st (cell c) → ((d : ℕ) → d < c → Writable g st (cell d)) → f ≡ At (cell c)
-  lowest_at (At d) c low l bad before =
+  lowest_at : (f : Option Cell) (c : ℕ) → Refused f → c < cells → ¬ Writable g st (cell c) → ((d : ℕ) → d < c → Writable g st (cell d)) → f ≡ Some (cell c)
+  lowest_at (Some d) c low l bad before =
       elim (ℕ_discrete d.0 c) [
-        | yes e ↦ ap (λ (n : ℕ). At (cell n)) e
+        | yes e ↦ ap (λ (n : ℕ). Some (cell n)) e
         | no e ↦ absurd (elim (dec_lt d.0 c) [ yes k ↦ low.bad (before d.0 k) | no k ↦ bad (low.before c (omega arith)) ])
       ]
-  lowest_at Missing c low l bad before = absurd (bad (low c l))
+  lowest_at None c low l bad before = absurd (bad (low c l))
 
-  lowest_none : (f : Found) → Refused f → ((c : ℕ) → c < cells → Writable g st (cell c)) → f ≡ Missing
-  lowest_none (At d) low fine = absurd (low.bad (fine d.0 low.to))
-  lowest_none Missing low fine = refl
+  lowest_none : (f : Option Cell) → Refused f → ((c : ℕ) → c < cells → Writable g st (cell c)) → f ≡ None
+  lowest_none (Some d) low fine = absurd (low.bad (fine d.0 low.to))
+  lowest_none None low fine = refl
 
   pub write_answer_lem : {r p : ℕ} → WriterGives st grants room r p → write_answer st grants room ≡ answer r p
   unfolding write_answer

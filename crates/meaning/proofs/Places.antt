@@ -10,10 +10,10 @@ use lib.Dec.{T, eqb, lit<}
 use mir.Facts.{and_yes}
 use lib.ListN.{length, take}
 use Rattle.laws.specs.Lists.{All}
+use Rattle.meaning.specs.Answers.{Answer}
 use Rattle.meaning.specs.declared.VideoOffset.{VideoOffset}
 use Rattle.meaning.specs.declared.Kind.{Kind}
 use Rattle.meaning.specs.declared.Kind.TheVariants.{Setting, Parameter, Video}
-use Rattle.meaning.specs.declared.Answer.{Answer}
 use Rattle.meaning.specs.Words.{Word, count, offset, video_offset}
 use Rattle.meaning.specs.Registers.{is_found, find_video}
 use Rattle.meaning.specs.Grants.{Terms}

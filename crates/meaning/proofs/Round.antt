@@ -1,5 +1,6 @@
 -- The states that some permitted batch reaches from the empty one are those that the writer takes.
 -- Assumes nothing.
+use Rattle.std.specs.Prelude.{Option, Some, None}
 use mathlib.Core.Path.{◌≡◌, refl, ap, ◌∙◌}
 use mathlib.Core.Bool.{Bool, true, false, ◌&&◌, cond}
 use mathlib.Core.List.{List}
@@ -13,12 +14,10 @@ use mir.Facts.{and_yes, yes_and, ltb_yes, yes_ltb, eqb_yes, yes_eqb}
 use Rattle.laws.specs.Lists.{All, join}
 use Rattle.laws.proofs.Lists.{all_unit}
 use Rattle.laws.proofs.Tests.{implies_iff}
+use Rattle.meaning.specs.Answers.{Answer}
 use Rattle.meaning.specs.declared.Cell.{Cell}
-use Rattle.meaning.specs.declared.Found.{Found}
-use Rattle.meaning.specs.declared.Found.TheVariants.{At, Missing}
 use Rattle.meaning.specs.Words.{Word}
 use Rattle.meaning.specs.Registers.{cells, cell, register_at}
-use Rattle.meaning.specs.declared.Answer.{Answer}
 use Rattle.meaning.specs.Grants.{Terms, terms_of}
 use Rattle.meaning.specs.Batch.{Packet, Cut}
 use Rattle.meaning.specs.State.{value_at, mark_at, well_formed, empty, Write, apply_all, all_writes}
@@ -128,22 +127,22 @@ pub record LowestIs (g : Terms) (st : List ℕ) (i n c : ℕ) : Type 0 where
   pub bad : ¬ CellFine g st (cell c)
   pub before : (d : ℕ) → i ≤ d → d < c → CellFine g st (cell d)
 
-abbrev pub Lowest : Terms → List ℕ → ℕ → ℕ → Found → Type 0
-Lowest g st i n (At c) = LowestIs g st i n c.0
-Lowest g st i n Missing = (c : ℕ) → i ≤ c → c < i + n → CellFine g st (cell c)
+abbrev pub Lowest : Terms → List ℕ → ℕ → ℕ → Option Cell → Type 0
+Lowest g st i n (Some c) = LowestIs g st i n c.0
+Lowest g st i n None = (c : ℕ) → i ≤ c → c < i + n → CellFine g st (cell c)
 
-lowest_here : (g : Terms) (st : List ℕ) (i n : ℕ) (b : Bool) (more : Found) → writable g st (cell i) ≡ b → Lowest g st (suc i) n more
-    → Lowest g st i (suc n) (cond b more (At (cell i)))
+lowest_here : (g : Terms) (st : List ℕ) (i n : ℕ) (b : Bool) (more : Option Cell) → writable g st (cell i) ≡ b → Lowest g st (suc i) n more
+    → Lowest g st i (suc n) (cond b more (Some (cell i)))
 lowest_here g st i n false more e h =
     record { from = omega arith; to = omega arith; bad = λ f. rw e at ((writable_iff g st (cell i)).1 f); before = λ d l k. absurd (omega arith) }
-lowest_here g st i n true (At c) e h =
+lowest_here g st i n true (Some c) e h =
     record {
       from = omega (arith, h.from);
       to = omega (arith, h.to);
       bad = h.bad;
       before = λ d l k. elim (ℕ_discrete d i) [ yes z ↦ rw z ((writable_iff g st (cell i)).0 (rw e tt)) | no z ↦ h.before d (omega arith) k ];
     }
-lowest_here g st i n true Missing e h =
+lowest_here g st i n true None e h =
     λ c l k. elim (ℕ_discrete c i) [ yes z ↦ rw z ((writable_iff g st (cell i)).0 (rw e tt)) | no z ↦ h c (omega arith) (omega arith) ]
 
 pub lowest_told : (g : Terms) (st : List ℕ) (i n : ℕ) → Lowest g st i n (lowest_bad g st i n)

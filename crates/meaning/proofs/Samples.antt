@@ -1,5 +1,6 @@
 -- Words that may stand at each position: where each scaler role has a granted address that its registers hold, there is one.
 -- Assumes nothing.
+use Rattle.std.specs.Prelude.{Option, Some, None}
 use mathlib.Core.Path.{◌≡◌, refl, sym, ap, ◌∙◌, subst, subst₂}
 use mathlib.Core.Bool.{Bool, ◌&&◌, cond}
 use mathlib.Core.List.{List, [], ◌∷◌}
@@ -14,8 +15,6 @@ use Rattle.laws.proofs.Lists.{all_both, every_from, every_some}
 use Rattle.meaning.specs.declared.Cell.{Cell}
 use Rattle.meaning.specs.declared.VideoOffset.{VideoOffset}
 use Rattle.meaning.specs.declared.SubAddress.{SubAddress}
-use Rattle.meaning.specs.declared.Found.{Found}
-use Rattle.meaning.specs.declared.Found.TheVariants.{At, Missing}
 use Rattle.meaning.specs.declared.Kind.TheVariants.{Setting, Parameter, Video}
 use Rattle.meaning.specs.declared.Memory.TheVariants.{Either}
 use Rattle.meaning.specs.Words.{Word, bits, para_adr, para_os, para_type, para_sub_type, sub_address, data24}
@@ -157,9 +156,9 @@ held_at : (g : Terms) (s : Section) → OwnIn register_at s → RowsHold g s →
 held_at g (of_3d G) o h = tt
 held_at g (of_video rs) o h = all_both _ _ _ (λ r e x. subst (Holds g) (sym e) x) rs o h
 
-word_of : (g : Terms) (f : Found) → T (is_found f) → Of (λ c. Holds g (register_at c)) f → (w : ℕ) × Word w × (found_reason g 4 f w ≡ 0)
-word_of g (At c) t h = (h.word, h.small, (fits_fine g (register_at c) h.word).0 h.fits)
-word_of g Missing t h = absurd t
+word_of : (g : Terms) (f : Option Cell) → T (is_found f) → Of (λ c. Holds g (register_at c)) f → (w : ℕ) × Word w × (found_reason g 4 f w ≡ 0)
+word_of g (Some c) t h = (h.word, h.small, (fits_fine g (register_at c) h.word).0 h.fits)
+word_of g None t h = absurd t
 
 a_video_word : (g : Terms) → HoldableScaler g 2 → HoldableScaler g 3 → (o : VideoOffset) → T (is_found (find_video o)) → Sample g (Video o)
 unfolding word_reason find_video

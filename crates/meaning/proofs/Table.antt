@@ -1,5 +1,6 @@
 -- Each row is found by its name, at its cell, and the cells are numbered as the rows stand: one test over the table.
 -- Assumes nothing.
+use Rattle.std.specs.Prelude.{Option, Some, None}
 use mathlib.Core.Path.{◌≡◌, refl, ap, ◌∙◌}
 use mathlib.Core.Bool.{Bool, true, false, ◌&&◌, cond}
 use mathlib.Core.List.{List, [], ◌∷◌}
@@ -14,15 +15,13 @@ use Rattle.laws.proofs.Lists.{all_both}
 use Rattle.meaning.specs.declared.Cell.{Cell}
 use Rattle.meaning.specs.declared.SubAddress.{SubAddress}
 use Rattle.meaning.specs.declared.VideoOffset.{VideoOffset}
-use Rattle.meaning.specs.declared.Found.{Found}
-use Rattle.meaning.specs.declared.Found.TheVariants.{At, Missing}
 use Rattle.meaning.specs.Registers.{cells, cell, Register, register_among, register_in, register_at, Row, Group, Section, of_3d, of_video, target_group, stage, sample, overlay, scaler, sections, find, find_among, find_3d, find_offset, find_video, first_found}
 use Rattle.meaning.specs.Batch.{allowed_types, type_allowed}
 
 -- row i: it bears number i and is found by its name, which is less than `names`; its register is so wide
-pub record RowAt (Name : Type 0) (key : Name → ℕ) (look : Name → Found) (names wide i : ℕ) (r : Row Name) : Type 0 where
+pub record RowAt (Name : Type 0) (key : Name → ℕ) (look : Name → Option Cell) (names wide i : ℕ) (r : Row Name) : Type 0 where
   pub numbered : r.cell ≡ cell i
-  pub found : look r.name ≡ At (cell i)
+  pub found : look r.name ≡ Some (cell i)
   pub short : key r.name < names
   pub width : (register_at (cell i)).width ≡ wide
   pub high : i < cells
@@ -66,16 +65,16 @@ rows_among (s ∷ ss) = rows_in s + rows_among ss
 -- ---- the tests
 
 -- a lookup found the cell of a number
-unfoldable pub is_at : ℕ → Found → Bool
-is_at i (At c) = eqb c.0 i
-is_at i Missing = false
+unfoldable pub is_at : ℕ → Option Cell → Bool
+is_at i (Some c) = eqb c.0 i
+is_at i None = false
 
-pub is_at_lem : (i : ℕ) (f : Found) → T (is_at i f) → f ≡ At (cell i)
+pub is_at_lem : (i : ℕ) (f : Option Cell) → T (is_at i f) → f ≡ Some (cell i)
 unfolding is_at
-is_at_lem i (At c) t = ap (λ (n : ℕ). At (cell n)) (eqb_yes t)
-is_at_lem i Missing t = absurd t
+is_at_lem i (Some c) t = ap (λ (n : ℕ). Some (cell n)) (eqb_yes t)
+is_at_lem i None t = absurd t
 
-module _ {Name : Type 0} (key : Name → ℕ) (look : Name → Found) (names wide : ℕ) where
+module _ {Name : Type 0} (key : Name → ℕ) (look : Name → Option Cell) (names wide : ℕ) where
   row_test : ℕ → Row Name → Bool
   row_test i r = eqb r.cell.0 i && (is_at i (look r.name) && (ltb (key r.name) names && (eqb (register_at (cell i)).width wide && ltb i cells)))
 
@@ -240,23 +239,23 @@ own_registers = owns 0 sections table
 -- ---- what a lookup finds
 
 -- what holds of each row's cell holds of the cell that is found
-abbrev pub Of : (Cell → Type 0) → Found → Type 0
-Of Q (At c) = Q c
-Of Q Missing = Unit {0}
+abbrev pub Of : (Cell → Type 0) → Option Cell → Type 0
+Of Q (Some c) = Q c
+Of Q None = Unit {0}
 
-pub pick_of : (Q : Cell → Type 0) (b : Bool) (x y : Found) → Of Q x → Of Q y → Of Q (cond b x y)
+pub pick_of : (Q : Cell → Type 0) (b : Bool) (x y : Option Cell) → Of Q x → Of Q y → Of Q (cond b x y)
 pick_of Q true x y p q = p
 pick_of Q false x y p q = q
 
 pub found_of : {Name : Type 0} (Q : Cell → Type 0) (is : Name → Bool) (rs : List (Row Name)) → All (λ r. Q r.cell) rs → Of Q (find is rs)
 unfolding find
 found_of Q is [] a = tt
-found_of Q is (r ∷ rs) a = pick_of Q (is r.name) (At r.cell) (find is rs) a.0 (found_of Q is rs a.1)
+found_of Q is (r ∷ rs) a = pick_of Q (is r.name) (Some r.cell) (find is rs) a.0 (found_of Q is rs a.1)
 
 -- of two lookups, the first that finds something
-first_of : (Q : Cell → Type 0) (x y : Found) → Of Q x → Of Q y → Of Q (first_found x y)
-first_of Q (At c) y p q = p
-first_of Q Missing y p q = q
+first_of : (Q : Cell → Type 0) (x y : Option Cell) → Of Q x → Of Q y → Of Q (first_found x y)
+first_of Q (Some c) y p q = p
+first_of Q None y p q = q
 
 -- a property of the rows that a lookup by name goes through
 abbrev pub Rows3D : (Row SubAddress → Type 0) → Section → Type 0

@@ -1,5 +1,7 @@
 -- A reason that is 0 is what is permitted: of a value, of a word that a register is found for.
 -- Assumes nothing.
+use Rattle.meaning.specs.declared.Cell.{Cell}
+use Rattle.std.specs.Prelude.{Option, Some, None}
 use mathlib.Core.Path.{◌≡◌, refl}
 use mathlib.Core.Logic.{◌↔◌}
 use mathlib.Core.Bool.{Bool, true, false}
@@ -8,8 +10,6 @@ use native.Mathlib.Omega.{arith}
 use lib.Dec.{T, eqb, lit<}
 use lib.Bits.{bit_and}
 use mir.Facts.{eqb_yes, yes_eqb}
-use Rattle.meaning.specs.declared.Found.{Found}
-use Rattle.meaning.specs.declared.Found.TheVariants.{At, Missing}
 use Rattle.meaning.specs.Registers.{Register, is_found, register_at}
 use Rattle.meaning.specs.Grants.{Terms}
 use Rattle.meaning.specs.Batch.{reaches, Fits, Stands}
@@ -32,11 +32,11 @@ fits_fine g r v =
           record { clear = eqb_yes p.0; value = q.0; granted = (grant.0 q.1).0 },
     )
 
-pub stands_fine : (g : Terms) (none : ℕ) (f : Found) (v : ℕ) → 0 < none → Stands g f v ↔ (found_reason g none f v ≡ 0)
-stands_fine g none (At c) v l = fits_fine g (register_at c) v
-stands_fine g none Missing v l = (λ x. absurd x, λ e. absurd (omega arith))
+pub stands_fine : (g : Terms) (none : ℕ) (f : Option Cell) (v : ℕ) → 0 < none → Stands g f v ↔ (found_reason g none f v ≡ 0)
+stands_fine g none (Some c) v l = fits_fine g (register_at c) v
+stands_fine g none None v l = (λ x. absurd x, λ e. absurd (omega arith))
 
 -- what stands somewhere has a register
-pub stands_found : (g : Terms) (f : Found) (v : ℕ) → Stands g f v → T (is_found f)
-stands_found g (At c) v x = tt
-stands_found g Missing v x = absurd x
+pub stands_found : (g : Terms) (f : Option Cell) (v : ℕ) → Stands g f v → T (is_found f)
+stands_found g (Some c) v x = tt
+stands_found g None v x = absurd x

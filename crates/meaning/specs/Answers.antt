@@ -1,7 +1,9 @@
 -- Answers: the reasons' numbers, an answer's number, and what a call leaves in a lent buffer.
 -- Assumes nothing.
-use Rattle.std.specs.Prelude.{Bool, cond, List, ℕ, ◌+◌, ◌*◌, eqb}
-use Rattle.meaning.specs.declared.Answer.{Answer}
+use Rattle.std.specs.Prelude.{Bool, cond, List, ℕ, ◌+◌, ◌*◌, eqb, Result, Ok, Err}
+use Rattle.meaning.specs.declared.Reason.{Reason}
+use Rattle.meaning.specs.declared.Reason.TheVariants as by
+use Rattle.meaning.specs.declared.Refusal.{Refusal}
 
 -- ---- why a batch comes back: the table's numbers, in its order; Reasons says when each is given
 
@@ -77,8 +79,41 @@ success = 0
 -- ---- answers
 
 -- A1 "An answer is a reason and a place."
+pub record Answer : Type 0 where
+  pub reason : ℕ
+  pub place : ℕ
+
 abbrev pub answer : ℕ → ℕ → Answer
 answer r p = record { reason = r; place = p }
+
+-- the number of a reason that code names
+abbrev pub number : Reason → ℕ
+number by.BadState = bad_state
+number by.BadGrants = bad_grants
+number by.BadOffset = bad_offset
+number by.BadCount = bad_count
+number by.BadSetting = bad_setting
+number by.NoRegister = no_register
+number by.BitSet = bit_set
+number by.BadValue = bad_value
+number by.NotGranted = not_granted
+number by.EndsInside = ends_inside
+number by.NoRoom = no_room
+number by.NotWritable = not_writable
+number by.BadBuffer = bad_buffer
+number by.BadPair = bad_pair
+number by.NotAListing = not_listing
+number by.EngineFull = engine_full
+
+-- A1 "Reason 0 is success, and any other is a refusal.": the reason of a result
+abbrev pub reason_in : {A : Type 0} → Result A Reason → ℕ
+reason_in (Ok a) = success
+reason_in (Err r) = number r
+
+-- the answer that a result is
+abbrev pub answer_in : Result ℕ Refusal → Answer
+answer_in (Ok place) = answer success place
+answer_in (Err refusal) = answer (number refusal.reason) refusal.place
 
 -- the answer goes on where a test is true, and is a refusal at place 0 where it is not
 abbrev pub provided : Bool → ℕ → Answer → Answer

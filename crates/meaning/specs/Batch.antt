@@ -1,13 +1,12 @@
 -- Permitted packets, said of the words alone; a cut; addresses that registers can hold.
 -- Assumes nothing.
-use Rattle.std.specs.Prelude.{◌≡◌, Bool, true, ◌&&◌, List, [], ◌∷◌, ℕ, ◌%◌, ◌≤◌, ◌<◌, ◌^◌, T, eqb, length}
+use Rattle.meaning.specs.declared.Cell.{Cell}
+use Rattle.std.specs.Prelude.{◌≡◌, Bool, true, ◌&&◌, List, [], ◌∷◌, ℕ, ◌%◌, ◌≤◌, ◌<◌, ◌^◌, T, eqb, length, Option, Some, None}
 use Rattle.std.specs.Int.Bits.{bit_and}
 use Rattle.laws.specs.Lists.{All, some, join}
 use Rattle.laws.specs.Tests.{within}
 use Rattle.meaning.specs.declared.VideoOffset.{VideoOffset}
 use Rattle.meaning.specs.declared.Memory.TheVariants.{Either}
-use Rattle.meaning.specs.declared.Found.{Found}
-use Rattle.meaning.specs.declared.Found.TheVariants.{At, Missing}
 use Rattle.meaning.specs.Words.{count, offset, video_offset, following, para_adr, para_os, para_type, para_sub_type, sub_address, data24}
 use Rattle.meaning.specs.Registers.{Content, nothing, address, Register, find_3d, find_video, register_at}
 use Rattle.meaning.specs.Grants.{Terms, granted}
@@ -27,9 +26,9 @@ pub record Fits (g : Terms) (r : Register) (v : ℕ) : Type 0 where
   pub granted : T (reaches g (r.holds v))
 
 -- B13 "names a register of the table, and each value may stand in its register": of one value
-abbrev pub Stands : Terms → Found → ℕ → Type 0
-Stands g (At c) v = Fits g (register_at c) v
-Stands g Missing v = ⊥
+abbrev pub Stands : Terms → Option Cell → ℕ → Type 0
+Stands g (Some c) v = Fits g (register_at c) v
+Stands g None v = ⊥
 
 -- ---- packets
 
@@ -65,7 +64,7 @@ unfoldable pub allowed : ℕ → Bool
 allowed s = eqb (para_adr s) 0 && (eqb (para_os s) 0 && type_allowed (para_type s) (para_sub_type s))
 
 -- the register that a parameter names under a setting: R19 "its type, its sub-type and its sub-address, all three"
-abbrev pub named : ℕ → ℕ → Found
+abbrev pub named : ℕ → ℕ → Option Cell
 named s p = find_3d (para_type s) (para_sub_type s) (sub_address p)
 
 -- B13 "each parameter names a register of the table", and its data may stand there

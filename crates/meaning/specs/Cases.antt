@@ -3,11 +3,10 @@
 -- Assumes nothing.
 use Rattle.std.specs.Prelude.{List, [], ◌∷◌, ◌++◌, map, ℕ, ◌+◌, ◌*◌, ◌≡◌, set, replicate}
 use Rattle.laws.specs.Lists.{join}
-use Rattle.meaning.specs.declared.Answer.{Answer}
 use Rattle.meaning.specs.Words.{data24}
 use Rattle.meaning.specs.Registers.{cells, Format, formats}
 use Rattle.meaning.specs.State.{empty}
-use Rattle.meaning.specs.Answers.{answer}
+use Rattle.meaning.specs.Answers.{Answer, answer}
 use Rattle.meaning.specs.Reader.{read_answer, read_leaves}
 use Rattle.meaning.specs.Writer.{written, most_written, write_answer}
 

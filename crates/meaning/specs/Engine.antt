@@ -3,11 +3,10 @@
 -- Assumes nothing.
 use Rattle.std.specs.Prelude.{Bool, ◌&&◌, cond, List, [], ℕ, leb, length, take}
 use Rattle.laws.specs.Tests.{within}
-use Rattle.meaning.specs.declared.Answer.{Answer}
 use Rattle.meaning.specs.Grants.{Terms, terms_of, grants_fine}
 use Rattle.meaning.specs.State.{well_formed, empty, apply_all}
 use Rattle.meaning.specs.Positions.{writes_of}
-use Rattle.meaning.specs.Answers.{bad_state, bad_grants, bad_offset, not_granted, engine_full, success, answer, provided, settle}
+use Rattle.meaning.specs.Answers.{Answer, bad_state, bad_grants, bad_offset, not_granted, engine_full, success, answer, provided, settle}
 use Rattle.meaning.specs.Reader.{batch_answer, paired_answer}
 
 -- ---- words, where opening has answered 0

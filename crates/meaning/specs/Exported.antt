@@ -4,9 +4,8 @@
 use Rattle.std.specs.Prelude.{Bool, ◌&&◌, List, [], ◌∷◌, ℕ, ◌/◌, ◌%◌, leb, eqb, length}
 use Rattle.laws.specs.Lists.{every, over}
 use Rattle.meaning.specs.declared.Cell.{Cell}
-use Rattle.meaning.specs.declared.Answer.{Answer}
 use Rattle.meaning.specs.Words.{words_of, bytes_of}
-use Rattle.meaning.specs.Answers.{bad_buffer, provided, settle}
+use Rattle.meaning.specs.Answers.{Answer, bad_buffer, provided, settle}
 use Rattle.meaning.specs.Reader.{read_answer, read_leaves}
 use Rattle.meaning.specs.Writer.{written, size_answer, write_answer}
 use Rattle.meaning.specs.Query.{query_answer}

@@ -1,13 +1,11 @@
 -- Grants: read from words, the rules of the list, and when an address is granted.
 -- G6 "These sums are of whole numbers, and do not wrap."
 -- Assumes nothing.
-use Rattle.std.specs.Prelude.{Bool, true, false, ◌&&◌, ◌||◌, cond, List, [], ◌∷◌, ℕ, suc, ◌+◌, ◌/◌, ◌%◌, ◌^◌, leb, eqb, length}
+use Rattle.std.specs.Prelude.{Bool, true, false, ◌&&◌, ◌||◌, cond, List, [], ◌∷◌, ℕ, suc, ◌+◌, ◌/◌, ◌%◌, ◌^◌, leb, eqb, length, Option, Some, None}
 use Rattle.laws.specs.Lists.{every, some}
 use Rattle.laws.specs.Tests.{within}
 use Rattle.meaning.specs.declared.Memory.{Memory}
 use Rattle.meaning.specs.declared.Memory.TheVariants.{Either, Only}
-use Rattle.meaning.specs.declared.Which.{Which}
-use Rattle.meaning.specs.declared.Which.TheVariants as by
 
 -- G1 "A grant is five words, in this order: role, start, length, reach, memory."
 pub record Grant : Type 0 where
@@ -63,19 +61,19 @@ granted gs m role a = some (covers m role a) gs
 
 -- the first of these grants that admits the address, where the list goes on from number n: G7 "Grants are numbered from 0, as the list has
 -- them"
-unfoldable pub which_from : ℕ → List Grant → Memory → ℕ → ℕ → Which
-which_from n [] m role a = by.Nobody
-which_from n (g ∷ gs) m role a = let more = which_from (suc n) gs m role a in cond (covers m role a g) (by.Grant n) more
+unfoldable pub which_from : ℕ → List Grant → Memory → ℕ → ℕ → Option ℕ
+which_from n [] m role a = None
+which_from n (g ∷ gs) m role a = let more = which_from (suc n) gs m role a in cond (covers m role a g) (Some n) more
 
 -- G8 "The grant that admits an address of a role is the lowest-numbered one by which the role is granted it; nobody admits it exactly if
 -- there is none.", and in a memory likewise
-abbrev pub which : List Grant → Memory → ℕ → ℕ → Which
+abbrev pub which : List Grant → Memory → ℕ → ℕ → Option ℕ
 which gs m role a = which_from 0 gs m role a
 
 -- some grant does
-abbrev pub is_grant : Which → Bool
-is_grant (by.Grant n) = true
-is_grant by.Nobody = false
+abbrev pub is_grant : Option ℕ → Bool
+is_grant (Some n) = true
+is_grant None = false
 
 -- what a batch is judged by
 pub record Terms : Type 0 where

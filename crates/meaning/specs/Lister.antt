@@ -5,10 +5,9 @@ use Rattle.std.specs.Prelude.{cond, List, [], ◌∷◌, ◌++◌, ℕ, zero, su
 use Rattle.laws.specs.Lists.{join, over}
 use Rattle.meaning.specs.declared.SubAddress.{SubAddress}
 use Rattle.meaning.specs.declared.VideoOffset.{VideoOffset}
-use Rattle.meaning.specs.declared.Answer.{Answer}
 use Rattle.meaning.specs.Registers.{Row, Section, of_3d, of_video, sections}
 use Rattle.meaning.specs.State.{value_at, marked, well_formed}
-use Rattle.meaning.specs.Answers.{bad_state, no_room, success, answer, provided, settle}
+use Rattle.meaning.specs.Answers.{Answer, bad_state, no_room, success, answer, provided, settle}
 use Rattle.meaning.specs.Writer.{if_so}
 use Rattle.meaning.specs.Text.{ascii}
 

@@ -8,10 +8,9 @@ use Rattle.laws.specs.Tests.{within}
 use Rattle.meaning.specs.declared.Cell.{Cell}
 use Rattle.meaning.specs.declared.SubAddress.{SubAddress}
 use Rattle.meaning.specs.declared.VideoOffset.{VideoOffset}
-use Rattle.meaning.specs.declared.Answer.{Answer}
 use Rattle.meaning.specs.Registers.{cells, Register, Row, Section, of_3d, of_video, sections}
 use Rattle.meaning.specs.State.{state_words, empty, Write, apply_all}
-use Rattle.meaning.specs.Answers.{bad_state, not_listing, success, answer, provided, settle}
+use Rattle.meaning.specs.Answers.{Answer, bad_state, not_listing, success, answer, provided, settle}
 use Rattle.meaning.specs.Text.{ascii}
 use Rattle.meaning.specs.Lister.{hex}
 

@@ -1,11 +1,10 @@
 -- Where each word of a batch stands, by the counts of the headers alone: no word is judged here.
 -- Assumes nothing.
-use Rattle.std.specs.Prelude.{cond, List, [], ◌∷◌, ◌++◌, ℕ, zero, suc, eqb}
+use Rattle.meaning.specs.declared.Cell.{Cell}
+use Rattle.std.specs.Prelude.{cond, List, [], ◌∷◌, ◌++◌, ℕ, zero, suc, eqb, Option, None}
 use Rattle.meaning.specs.declared.Kind.{Kind}
 use Rattle.meaning.specs.declared.Kind.TheVariants.{Setting, Parameter, Video}
 use Rattle.meaning.specs.declared.Position.{Position}
-use Rattle.meaning.specs.declared.Found.{Found}
-use Rattle.meaning.specs.declared.Found.TheVariants.{Missing}
 use Rattle.meaning.specs.Words.{count, offset, video_offset, following, data24}
 use Rattle.meaning.specs.Registers.{find_video}
 use Rattle.meaning.specs.Batch.{offset_3d, named}
@@ -42,8 +41,8 @@ unfoldable pub position_at : List ℕ → ℕ → Position
 position_at ws i = position_from Setting 0 ws i
 
 -- the register that a word of a packet's body goes to
-unfoldable pub goes : Kind → ℕ → Found
-goes Setting w = Missing
+unfoldable pub goes : Kind → ℕ → Option Cell
+goes Setting w = None
 goes (Parameter s) w = named s w
 goes (Video o) w = find_video o
 

@@ -1,15 +1,13 @@
 -- What the reader answers.
 -- A3 "The reader takes the words from the front, and at each word the reasons by their numbers; then 10, and 14 is last."
 -- Assumes nothing.
-use Rattle.std.specs.Prelude.{Bool, true, false, ◌&&◌, cond, List, [], ◌∷◌, ℕ, zero, suc, leb, eqb}
+use Rattle.meaning.specs.declared.Cell.{Cell}
+use Rattle.std.specs.Prelude.{Bool, true, false, ◌&&◌, cond, List, [], ◌∷◌, ℕ, zero, suc, leb, eqb, Option, Some, None}
 use Rattle.std.specs.Int.Bits.{bit_and}
 use Rattle.laws.specs.Tests.{within}
 use Rattle.meaning.specs.declared.VideoOffset.{VideoOffset}
-use Rattle.meaning.specs.declared.Found.{Found}
-use Rattle.meaning.specs.declared.Found.TheVariants.{At, Missing}
 use Rattle.meaning.specs.declared.Kind.{Kind}
 use Rattle.meaning.specs.declared.Kind.TheVariants.{Setting, Parameter, Video}
-use Rattle.meaning.specs.declared.Answer.{Answer}
 use Rattle.meaning.specs.Words.{count, offset, video_offset, following, data24}
 use Rattle.meaning.specs.Registers.{Register, find_video, is_found, register_at}
 use Rattle.meaning.specs.Grants.{Terms, terms_of, grants_fine}
@@ -17,7 +15,7 @@ use Rattle.meaning.specs.Batch.{reaches, offset_3d, most_3d, allowed, named}
 use Rattle.meaning.specs.State.{well_formed, apply_all}
 use Rattle.meaning.specs.Pair.{pair_kept}
 use Rattle.meaning.specs.Positions.{next_kind, next_left, writes_of}
-use Rattle.meaning.specs.Answers.{bad_state, bad_grants, bad_offset, bad_count, bad_setting, no_register, bit_set, bad_value, not_granted, ends_inside, bad_pair, success, answer, provided, settle}
+use Rattle.meaning.specs.Answers.{Answer, bad_state, bad_grants, bad_offset, bad_count, bad_setting, no_register, bit_set, bad_value, not_granted, ends_inside, bad_pair, success, answer, provided, settle}
 
 -- ---- one word: its reason, 0 where nothing speaks against it
 
@@ -52,9 +50,9 @@ value_reason g r v =
     unless (eqb (bit_and v r.clear) 0) bit_set (unless (r.values v) bad_value (unless (reaches g (r.holds v)) not_granted success))
 
 -- a value for a register that the table has, or for none
-abbrev pub found_reason : Terms → ℕ → Found → ℕ → ℕ
-found_reason g none (At c) v = value_reason g (register_at c) v
-found_reason g none Missing v = none
+abbrev pub found_reason : Terms → ℕ → Option Cell → ℕ → ℕ
+found_reason g none (Some c) v = value_reason g (register_at c) v
+found_reason g none None v = none
 
 -- Y5 "a setting is none of those allowed"; Y6 "a parameter's name is no register's of the table", then 7 to 9; 7 to 9 of a word of a run. A
 -- header refuses a run that leaves the video registers, so 4 comes to no word of a run

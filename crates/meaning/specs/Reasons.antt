@@ -2,11 +2,10 @@
 -- A5 "A reason is given exactly if its row fits and nothing fits that goes before it in this order." is each_reason_exactly in
 -- proofs/Promises. No answer is computed here: of Writer and Lister only the exact words, their number and the exact bytes are cited.
 -- Assumes nothing.
-use Rattle.std.specs.Prelude.{◌≡◌, ◌≢◌, ◌⊎◌, List, ℕ, zero, suc, ◌≤◌, ◌<◌, ◌^◌, T, length, get_or}
+use Rattle.std.specs.Prelude.{◌≡◌, ◌≢◌, ◌⊎◌, List, ℕ, zero, suc, ◌≤◌, ◌<◌, ◌^◌, T, length, get_or, Some, None}
 use Rattle.std.specs.Int.Bits.{bit_and}
 use Rattle.meaning.specs.declared.Cell.{Cell}
 use Rattle.meaning.specs.declared.VideoOffset.{VideoOffset}
-use Rattle.meaning.specs.declared.Found.TheVariants.{At, Missing}
 use Rattle.meaning.specs.declared.Kind.{Kind}
 use Rattle.meaning.specs.declared.Kind.TheVariants.{Setting, Parameter}
 use Rattle.meaning.specs.Words.{count, offset, video_offset, following}
@@ -44,15 +43,15 @@ pub data Given (g : Terms) : Kind → ℕ → ℕ → ℕ → Type 0 where
   -- Y5 "a setting is none of those allowed"
   by_bad_setting : {k s : ℕ} → ¬ T (allowed s) → Given g Setting (suc k) s 5
   -- Y6 "a parameter's name is no register's of the table"
-  by_no_register : {k s w : ℕ} → named s w ≡ Missing → Given g (Parameter s) (suc k) w 6
+  by_no_register : {k s w : ℕ} → named s w ≡ None → Given g (Parameter s) (suc k) w 6
   -- Y7 "a bit that must be clear is set"
-  by_bit_set : {kind : Kind} {k w : ℕ} (c : Cell) → goes kind w ≡ At c → bit_and (carries kind w) (register_at c).clear ≢ 0
+  by_bit_set : {kind : Kind} {k w : ℕ} (c : Cell) → goes kind w ≡ Some c → bit_and (carries kind w) (register_at c).clear ≢ 0
       → Given g kind (suc k) w 7
   -- Y8 "a value does not keep its value rule", and not 7
-  by_bad_value : {kind : Kind} {k w : ℕ} (c : Cell) → goes kind w ≡ At c → bit_and (carries kind w) (register_at c).clear ≡ 0
+  by_bad_value : {kind : Kind} {k w : ℕ} (c : Cell) → goes kind w ≡ Some c → bit_and (carries kind w) (register_at c).clear ≡ 0
       → ¬ T ((register_at c).values (carries kind w)) → Given g kind (suc k) w 8
   -- Y9 "an address is not granted", and neither 7 nor 8
-  by_not_granted : {kind : Kind} {k w : ℕ} (c : Cell) → goes kind w ≡ At c → bit_and (carries kind w) (register_at c).clear ≡ 0
+  by_not_granted : {kind : Kind} {k w : ℕ} (c : Cell) → goes kind w ≡ Some c → bit_and (carries kind w) (register_at c).clear ≡ 0
       → T ((register_at c).values (carries kind w)) → ¬ T (reaches g ((register_at c).holds (carries kind w))) → Given g kind (suc k) w 9
 
 -- the same of word i of a batch, at its position

@@ -1,13 +1,11 @@
 -- The 101 registers: the table of docs/RULES.md, column by column, and the format bytes.
 -- Assumes nothing.
-use Rattle.std.specs.Prelude.{Bool, true, false, not, ◌&&◌, ◌||◌, cond, List, [], ◌∷◌, ◌++◌, map, ℕ, ◌+◌, ◌*◌, ltb, leb, eqb}
+use Rattle.std.specs.Prelude.{Bool, true, false, not, ◌&&◌, ◌||◌, cond, List, [], ◌∷◌, ◌++◌, map, ℕ, ◌+◌, ◌*◌, ltb, leb, eqb, Option, Some, None}
 use Rattle.laws.specs.Lists.{join, from}
 use Rattle.laws.specs.Tests.{implies, one_of}
 use Rattle.meaning.specs.declared.Cell.{Cell}
 use Rattle.meaning.specs.declared.SubAddress.{SubAddress}
 use Rattle.meaning.specs.declared.VideoOffset.{VideoOffset}
-use Rattle.meaning.specs.declared.Found.{Found}
-use Rattle.meaning.specs.declared.Found.TheVariants.{At, Missing}
 use Rattle.meaning.specs.Words.{bits}
 
 -- R18 "There are 101 registers."
@@ -317,40 +315,40 @@ sections = sections_3d ++ sections_video
 -- ---- the register of a name, and of a cell
 
 -- a register was found
-abbrev pub is_found : Found → Bool
-is_found (At c) = true
-is_found Missing = false
+abbrev pub is_found : Option Cell → Bool
+is_found (Some c) = true
+is_found None = false
 
 -- the cell of the first row whose name passes the test
-unfoldable pub find : {Name : Type 0} → (Name → Bool) → List (Row Name) → Found
-find is [] = Missing
-find is (r ∷ rs) = let more = find is rs in cond (is r.name) (At r.cell) more
+unfoldable pub find : {Name : Type 0} → (Name → Bool) → List (Row Name) → Option Cell
+find is [] = None
+find is (r ∷ rs) = let more = find is rs in cond (is r.name) (Some r.cell) more
 
 -- the same among the rows of the group of a type and sub-type
-unfoldable pub find_among : ℕ → ℕ → SubAddress → List Section → Found
-find_among t u a [] = Missing
+unfoldable pub find_among : ℕ → ℕ → SubAddress → List Section → Option Cell
+find_among t u a [] = None
 find_among t u a (of_3d g ∷ ss) =
     let more = find_among t u a ss in
     cond (eqb t g.type && eqb u g.sub_type) (find (λ n. eqb a.0 n.0) g.rows) more
 find_among t u a (of_video rs ∷ ss) = find_among t u a ss
 
 -- R19 "The name of a 3D register is its type, its sub-type and its sub-address, all three"
-unfoldable pub find_3d : ℕ → ℕ → SubAddress → Found
+unfoldable pub find_3d : ℕ → ℕ → SubAddress → Option Cell
 find_3d t u a = find_among t u a sections
 
 -- the first that is found
-abbrev pub first_found : Found → Found → Found
-first_found (At c) more = At c
-first_found Missing more = more
+abbrev pub first_found : Option Cell → Option Cell → Option Cell
+first_found (Some c) more = Some c
+first_found None more = more
 
 -- an offset among the rows of video registers
-unfoldable pub find_offset : VideoOffset → List Section → Found
-find_offset o [] = Missing
+unfoldable pub find_offset : VideoOffset → List Section → Option Cell
+find_offset o [] = None
 find_offset o (of_3d g ∷ ss) = find_offset o ss
 find_offset o (of_video rs ∷ ss) = let more = find_offset o ss in first_found (find (λ n. eqb o.0 n.0) rs) more
 
 -- R20 "The name of a video register is its offset."
-unfoldable pub find_video : VideoOffset → Found
+unfoldable pub find_video : VideoOffset → Option Cell
 find_video o = find_offset o sections
 
 -- the register of the row that bears the cell's number

@@ -1,12 +1,10 @@
 -- The register state, and what the packets of a batch write into it.
 -- Assumes nothing.
-use Rattle.std.specs.Prelude.{Bool, true, false, ◌&&◌, List, [], ◌∷◌, ◌++◌, ℕ, zero, suc, ◌+◌, ◌*◌, leb, eqb, length, get_or, set, replicate}
+use Rattle.std.specs.Prelude.{Bool, true, false, ◌&&◌, List, [], ◌∷◌, ◌++◌, ℕ, zero, suc, ◌+◌, ◌*◌, leb, eqb, length, get_or, set, replicate, Option, Some, None}
 use Rattle.laws.specs.Lists.{every, from}
 use Rattle.laws.specs.Tests.{implies}
 use Rattle.meaning.specs.declared.Cell.{Cell}
 use Rattle.meaning.specs.declared.VideoOffset.{VideoOffset}
-use Rattle.meaning.specs.declared.Found.{Found}
-use Rattle.meaning.specs.declared.Found.TheVariants.{At, Missing}
 use Rattle.meaning.specs.Words.{offset, video_offset, following, data24}
 use Rattle.meaning.specs.Registers.{cells, cell, find_video}
 use Rattle.meaning.specs.Batch.{offset_3d, named}
@@ -85,9 +83,9 @@ apply_all st (w ∷ ws) = apply_all (apply st w) ws
 -- ---- what a packet writes
 
 -- a value for a register that the table has is a write
-abbrev pub write_to : Found → ℕ → List Write
-write_to (At c) v = record { cell = c; value = v } ∷ []
-write_to Missing v = []
+abbrev pub write_to : Option Cell → ℕ → List Write
+write_to (Some c) v = record { cell = c; value = v } ∷ []
+write_to None v = []
 
 -- S5 "A parameter writes its 24 bits of data": of the parameters under a setting
 unfoldable pub writes_3d : ℕ → List ℕ → List Write

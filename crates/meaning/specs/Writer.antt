@@ -2,21 +2,18 @@
 -- P2 "The writer takes a state and a grant list, and makes a batch of the state."
 -- P11 "The size takes a state and a grant list, and tells how many words the writer makes of the state."
 -- Assumes nothing.
-use Rattle.std.specs.Prelude.{Bool, true, false, ◌&&◌, cond, List, [], ◌∷◌, ◌++◌, ℕ, zero, suc, ◌+◌, ◌*◌, ◌^◌, leb, ltb, eqb, length}
+use Rattle.std.specs.Prelude.{Bool, true, false, ◌&&◌, cond, List, [], ◌∷◌, ◌++◌, ℕ, zero, suc, ◌+◌, ◌*◌, ◌^◌, leb, ltb, eqb, length, Option, Some, None}
 use Rattle.laws.specs.Lists.{join}
 use Rattle.laws.specs.Tests.{implies}
 use Rattle.meaning.specs.declared.Cell.{Cell}
 use Rattle.meaning.specs.declared.SubAddress.{SubAddress}
 use Rattle.meaning.specs.declared.VideoOffset.{VideoOffset}
-use Rattle.meaning.specs.declared.Found.{Found}
-use Rattle.meaning.specs.declared.Found.TheVariants.{At, Missing}
-use Rattle.meaning.specs.declared.Answer.{Answer}
 use Rattle.meaning.specs.Registers.{cells, cell, Row, Section, of_3d, of_video, sections, register_at}
 use Rattle.meaning.specs.Grants.{Terms, terms_of, grants_fine}
 use Rattle.meaning.specs.Batch.{offset_3d}
 use Rattle.meaning.specs.State.{value_at, mark_at, marked, one, well_formed}
 use Rattle.meaning.specs.Pair.{target_cell, pair_fine}
-use Rattle.meaning.specs.Answers.{bad_state, bad_grants, no_room, not_writable, success, answer, provided}
+use Rattle.meaning.specs.Answers.{Answer, bad_state, bad_grants, no_room, not_writable, success, answer, provided}
 use Rattle.meaning.specs.Reader.{value_reason}
 
 -- ---- the words: W1 "The writer writes the marked cells, in the order of the cells."
@@ -114,22 +111,22 @@ writable g st c =
     implies (ltb 0 (mark_at st c)) (ltb (value_at st c) (2 ^ (register_at c).width) && eqb (value_reason g (register_at c) (value_at st c)) success)
 
 -- Y12 "the lowest such cell", among n cells from number i on
-unfoldable pub lowest_bad : Terms → List ℕ → ℕ → ℕ → Found
-lowest_bad g st i zero = Missing
-lowest_bad g st i (suc n) = let more = lowest_bad g st (suc i) n in cond (writable g st (cell i)) more (At (cell i))
+unfoldable pub lowest_bad : Terms → List ℕ → ℕ → ℕ → Option Cell
+lowest_bad g st i zero = None
+lowest_bad g st i (suc n) = let more = lowest_bad g st (suc i) n in cond (writable g st (cell i)) more (Some (cell i))
 
 -- Y12 "or it is cell 1 and the pair is not fine": cell 0 alone goes before it
-abbrev pub with_pair : Bool → Found → Found
+abbrev pub with_pair : Bool → Option Cell → Option Cell
 with_pair true f = f
-with_pair false (At c) = cond (eqb c.0 0) (At c) (At target_cell)
-with_pair false Missing = At target_cell
+with_pair false (Some c) = cond (eqb c.0 0) (Some c) (Some target_cell)
+with_pair false None = Some target_cell
 
 -- ---- the calls
 
 -- a bad cell is the answer; where there is none, what comes after
-abbrev pub except_at : Found → Answer → Answer
-except_at (At c) a = answer not_writable c.0
-except_at Missing a = a
+abbrev pub except_at : Option Cell → Answer → Answer
+except_at (Some c) a = answer not_writable c.0
+except_at None a = a
 
 -- what size and writer ask alike of a state and a grant list, A2 "1 before 2, and 2 before all others"; then what comes after
 abbrev pub once_writable : List ℕ → List ℕ → Answer → Answer

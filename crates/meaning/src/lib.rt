@@ -1,9 +1,9 @@
-// The types that definitions and code share, and the code's names for sizes and reasons. What they mean is in specs/; there is no function
-// here.
-
-// How many cells there are, and which of them are video registers': those from FIRST_VIDEO on, to before END_VIDEO.
+// The types that definitions and code share, and the code's names for sizes and reasons. What they mean is in specs/.
 #![tactic(auto)]
 
+ghost use Rattle.std.specs.Prelude.{◌≡◌};
+
+// How many cells there are, and which of them are video registers': those from FIRST_VIDEO on, to before END_VIDEO.
 pub const CELLS: usize = 101;
 
 pub const FIRST_VIDEO: usize = 84;
@@ -36,41 +36,26 @@ pub const MOST_GRANTS: usize = 64;
 // The most words that an engine takes.
 pub const MOST_FED: u32 = 0xffffffff;
 
-// The reasons that code answers, as specs/Answers names them.
-pub const SUCCESS: u32 = 0;
-
-pub const BAD_STATE: u32 = 1;
-
-pub const BAD_GRANTS: u32 = 2;
-
-pub const BAD_OFFSET: u32 = 3;
-
-pub const BAD_COUNT: u32 = 4;
-
-pub const BAD_SETTING: u32 = 5;
-
-pub const NO_REGISTER: u32 = 6;
-
-pub const BIT_SET: u32 = 7;
-
-pub const BAD_VALUE: u32 = 8;
-
-pub const NOT_GRANTED: u32 = 9;
-
-pub const ENDS_INSIDE: u32 = 10;
-
-pub const NO_ROOM: u32 = 11;
-
-pub const NOT_WRITABLE: u32 = 12;
-
-pub const BAD_PAIR: u32 = 14;
-
-pub const NOT_A_LISTING: u32 = 19;
-
-pub const ENGINE_FULL: u32 = 23;
-
-// And the one that the C calls answer by themselves, as the number that they answer: place 0.
-pub const BAD_BUFFER: u64 = 13;
+// Why something is refused. The numbers are those that a C call tells, as specs/Answers names them.
+#[derive(Clone, Copy, PartialEq, Eq)]
+pub enum Reason {
+    BadState = 1,
+    BadGrants = 2,
+    BadOffset = 3,
+    BadCount = 4,
+    BadSetting = 5,
+    NoRegister = 6,
+    BitSet = 7,
+    BadValue = 8,
+    NotGranted = 9,
+    EndsInside = 10,
+    NoRoom = 11,
+    NotWritable = 12,
+    BadBuffer = 13,
+    BadPair = 14,
+    NotAListing = 19,
+    EngineFull = 23,
+}
 
 // R21 "three kinds of number, and no code may be able to exchange them": a cell of the state,
 #[derive(Clone, Copy)]
@@ -87,25 +72,11 @@ pub struct VideoOffset(pub u32);
 // A state as the code holds it: the values, then the marks.
 pub type State = [u32; STATE_WORDS];
 
-// What a name names: the cell of a register, or no register of the table.
-#[derive(Clone, Copy)]
-pub enum Found {
-    At(Cell),
-    Missing,
-}
-
 // Where an address is asked about: in whichever memory, or in the one of a number.
 #[derive(Clone, Copy)]
 pub enum Memory {
     Either,
     Only(u32),
-}
-
-// Which grant admits an address: the one with a number, or none.
-#[derive(Clone, Copy)]
-pub enum Which {
-    Grant(usize),
-    Nobody,
 }
 
 // What the next word of an open packet is: the setting, a parameter under a setting, a word for a video register.
@@ -123,9 +94,24 @@ pub struct Position {
     pub left: usize,
 }
 
-// A reason, 0 for success, and a place.
-#[derive(Clone, Copy)]
-pub struct Answer {
-    pub reason: u32,
+// A refusal is a reason and a place.
+#[derive(Clone, Copy, PartialEq, Eq)]
+pub struct Refusal {
+    pub reason: Reason,
     pub place: usize,
+}
+
+// An answer is the place that success has, or a refusal.
+pub type Answer = Result<usize, Refusal>;
+
+impl Reason {
+    // The refusal for it at a place.
+    pub fn at(self, place: usize) -> Refusal
+        ensures at { result ≡ record { reason = self; place = place } }
+    {
+        Refusal {
+            reason: self,
+            place,
+        }
+    }
 }

@@ -2,11 +2,10 @@
 -- and P10 "the listing of the state".
 -- Assumes nothing.
 use Rattle.std.specs.Prelude.{cond, List, [], ◌∷◌, ◌++◌, ℕ, zero, suc, ◌+◌, eqb, get_or, take, drop}
-use Rattle.meaning.specs.declared.Answer.{Answer}
 use Rattle.meaning.specs.Words.{words_of, bytes_of}
 use Rattle.meaning.specs.Registers.{cells, cell}
 use Rattle.meaning.specs.State.{marked, empty}
-use Rattle.meaning.specs.Answers.{success, number_of}
+use Rattle.meaning.specs.Answers.{Answer, success, number_of}
 use Rattle.meaning.specs.Writer.{if_so}
 use Rattle.meaning.specs.Lister.{most_listed, listing}
 use Rattle.meaning.specs.Exported.{exported_read, exported_read_leaves, exported_which_grant}

@@ -1,5 +1,6 @@
 -- The query's answers are its rows: 1, 2, the grant that admits the address, or none.
 -- Assumes nothing.
+use Rattle.std.specs.Prelude.{Option, Some, None}
 use mathlib.Core.Path.{◌≡◌, refl, sym, ap, subst, ◌∙◌}
 use mathlib.Core.Logic.{◌↔◌}
 use mathlib.Core.Bool.{Bool, true, false, ◌&&◌, cond}
@@ -11,15 +12,12 @@ use lib.ListN.{length}
 use mir.Facts.{and_yes, yes_and, ltb_yes, yes_ltb}
 use Rattle.laws.proofs.Tests.{true_of, false_of, holds_of, fails_of}
 use Rattle.meaning.specs.declared.Cell.{Cell}
-use Rattle.meaning.specs.declared.Which.{Which}
-use Rattle.meaning.specs.declared.Which.TheVariants as by
-use Rattle.meaning.specs.declared.Answer.{Answer}
 use Rattle.meaning.specs.Words.{words_of}
 use Rattle.meaning.specs.Registers.{cells, Content, nothing, address, register_at}
 use Rattle.meaning.specs.Grants.{Terms, most_grants, grants_of, terms_of, grants_fine, which}
 use Rattle.meaning.specs.State.{value_at, mark_at, is_mark, marked, well_formed}
 use Rattle.meaning.specs.Pair.{looked_at}
-use Rattle.meaning.specs.Answers.{bad_state, bad_grants, success, answer, provided}
+use Rattle.meaning.specs.Answers.{Answer, bad_state, bad_grants, success, answer, provided}
 use Rattle.meaning.specs.Query.{which_held, which_stored, which_at, place_of, query_answer}
 use Rattle.meaning.specs.Exported.{word_buffer_fine, exported_which_grant}
 use Rattle.meaning.specs.Fitter.{LowestOf, NoneOf}
@@ -57,17 +55,17 @@ module _ (g : Terms) (st : List ℕ) (c : Cell) where
   which_held_lem role a h = rw (true_of there (held_there h), h.held)
 
   -- none
-  pub which_none : ((role a : ℕ) → HoldsAddress st c role a → NoneOf g.grants (looked_at st c) role a) → which_at g st c ≡ by.Nobody
+  pub which_none : ((role a : ℕ) → HoldsAddress st c role a → NoneOf g.grants (looked_at st c) role a) → which_at g st c ≡ None
   unfolding which_at
   which_none h = by_test there refl
     where
-      by_content : (t : T there) (k : Content) → (register_at c).holds (value_at st c) ≡ k → which_held g (looked_at st c) k ≡ by.Nobody
+      by_content : (t : T there) (k : Content) → (register_at c).holds (value_at st c) ≡ k → which_held g (looked_at st c) k ≡ None
       by_content t nothing e = refl
       by_content t (address role a) e =
           let is = there_iff.0 t in
           (none_iff g.grants (looked_at st c) role a).1 (h role a (record { there = is.0; marked = is.1; held = e }))
 
-      by_test : (b : Bool) → there ≡ b → cond b (which_stored g (looked_at st c) c (value_at st c)) by.Nobody ≡ by.Nobody
+      by_test : (b : Bool) → there ≡ b → cond b (which_stored g (looked_at st c) c (value_at st c)) None ≡ None
       by_test true e = by_content (holds_of e) ((register_at c).holds (value_at st c)) refl
       by_test false e = refl
 
@@ -99,12 +97,12 @@ module _ (st grants : List ℕ) (c : Cell) where
 
   module _ (w : T (well_formed st)) (f : T (grants_fine grants)) where
     -- 0, with the place of what is told
-    abbrev Given : Which → Type 0
+    abbrev Given : Option ℕ → Type 0
     Given x = QueryGives st grants c 0 (place_of x)
 
-    by_which : (role a : ℕ) → HoldsAddress st c role a → (x : Which) → which g.grants (looked_at st c) role a ≡ x → Given x
-    by_which role a h (by.Grant n) e = admitted w f h ((lowest_iff g.grants (looked_at st c) role a n).0 e)
-    by_which role a h by.Nobody e = nobody w f (λ role' a' k. let same = held_once g st c h k in rw (← same.0, ← same.1) ((none_iff g.grants (looked_at st c) role a).0 e))
+    by_which : (role a : ℕ) → HoldsAddress st c role a → (x : Option ℕ) → which g.grants (looked_at st c) role a ≡ x → Given x
+    by_which role a h (Some n) e = admitted w f h ((lowest_iff g.grants (looked_at st c) role a n).0 e)
+    by_which role a h None e = nobody w f (λ role' a' k. let same = held_once g st c h k in rw (← same.0, ← same.1) ((none_iff g.grants (looked_at st c) role a).0 e))
 
     by_content : T (there g st c) → (k : Content) → (register_at c).holds (value_at st c) ≡ k → Given (which_held g (looked_at st c) k)
     by_content t nothing e = nobody w f (λ role a h. absurd (some_address (sym e ∙ h.held)))
@@ -112,7 +110,7 @@ module _ (st grants : List ℕ) (c : Cell) where
         let is = (there_iff g st c).0 t in
         by_which role a (record { there = is.0; marked = is.1; held = e }) (which g.grants (looked_at st c) role a) refl
 
-    by_there : (b : Bool) → there g st c ≡ b → Given (cond b (which_stored g (looked_at st c) c (value_at st c)) by.Nobody)
+    by_there : (b : Bool) → there g st c ≡ b → Given (cond b (which_stored g (looked_at st c) c (value_at st c)) None)
     by_there true e = by_content (holds_of e) ((register_at c).holds (value_at st c)) refl
     by_there false e = nobody w f (λ role a h. absurd (fails_of e (held_there g st c h)))
 

@@ -1,14 +1,13 @@
 -- Which grant, computed: of a list in which grants of other roles, one that grants nothing, equal ones and one that covers all overlap; and
 -- of the cells of a state.
 -- Assumes nothing.
+use Rattle.std.specs.Prelude.{Option, Some, None}
 use mathlib.Core.Path.{◌≡◌, refl}
 use mathlib.Core.List.{List, [], ◌∷◌}
 use Prim.Native.Nat.{ℕ, ◌+◌}
 use lib.ListN.{set}
 use Rattle.laws.specs.Lists.{from}
 use Rattle.meaning.specs.declared.Memory.TheVariants.{Either, Only}
-use Rattle.meaning.specs.declared.Which.{Which}
-use Rattle.meaning.specs.declared.Which.TheVariants as by
 use Rattle.meaning.specs.Registers.{cells, cell, target_group, stage, sample, overlay, scaler, sections, register_among, register_in, register_at}
 use Rattle.meaning.specs.Grants.{Grant, covers, which_from, which}
 use Rattle.meaning.specs.State.{empty}
@@ -35,19 +34,19 @@ several =
 
 -- memory, role, address and what is told: the lowest of four, in whichever memory and in each; the last address and one step past it, the
 -- end of all; nobody, there and in memories that there are none of
-pub several_hold : (which several Either 1 0x00100000 ≡ by.Grant 2)
-    × (which several (Only 0) 1 0x00100000 ≡ by.Grant 3)
-    × (which several (Only 1) 1 0x00100000 ≡ by.Grant 2)
-    × (which several (Only 1) 1 0x00100100 ≡ by.Grant 5)
-    × (which several (Only 0) 1 0x00100100 ≡ by.Nobody)
-    × (which several (Only 2) 1 0x00100000 ≡ by.Nobody)
-    × (which several Either 1 0xFFFFFF00 ≡ by.Grant 5)
-    × (which several Either 1 0x100000000 ≡ by.Nobody)
-    × (which several Either 2 0x00100000 ≡ by.Grant 0)
-    × (which several Either 2 0x0017FFFF ≡ by.Grant 0)
-    × (which several Either 2 0x00180000 ≡ by.Nobody)
-    × (which several Either 3 0x00000FF0 ≡ by.Grant 6)
-    × (which several Either 3 0x00000FF1 ≡ by.Nobody)
+pub several_hold : (which several Either 1 0x00100000 ≡ Some 2)
+    × (which several (Only 0) 1 0x00100000 ≡ Some 3)
+    × (which several (Only 1) 1 0x00100000 ≡ Some 2)
+    × (which several (Only 1) 1 0x00100100 ≡ Some 5)
+    × (which several (Only 0) 1 0x00100100 ≡ None)
+    × (which several (Only 2) 1 0x00100000 ≡ None)
+    × (which several Either 1 0xFFFFFF00 ≡ Some 5)
+    × (which several Either 1 0x100000000 ≡ None)
+    × (which several Either 2 0x00100000 ≡ Some 0)
+    × (which several Either 2 0x0017FFFF ≡ Some 0)
+    × (which several Either 2 0x00180000 ≡ None)
+    × (which several Either 3 0x00000FF0 ≡ Some 6)
+    × (which several Either 3 0x00000FF1 ≡ None)
 unfolding which_from covers
 several_hold = (refl, refl, refl, refl, refl, refl, refl, refl, refl, refl, refl, refl, refl)
 
@@ -59,22 +58,22 @@ abbrev holding : ℕ → ℕ → List ℕ
 holding c v = with empty c v
 
 -- which grant of these, of a state and a cell
-abbrev told : List ℕ → ℕ → Which
+abbrev told : List ℕ → ℕ → Option ℕ
 told st c = which_at (record { grants = several }) st (cell c)
 
 -- cell 1 by its value × 256, also where that is past 2^32, and in the memory that cell 2 names, if it names one; a scaler's by bits 28:4,
 -- whatever the other bits are; 0 is an address where the cell is marked, and none where it is not; a cell without an address, and a number
 -- that is no cell's
-pub cells_hold : (told (holding 1 0x001000) 1 ≡ by.Grant 3)
-    × (told (with (holding 1 0x001000) 2 0x000000) 1 ≡ by.Grant 3)
-    × (told (with (holding 1 0x001000) 2 0x100000) 1 ≡ by.Grant 2)
-    × (told (with (holding 1 0x001000) 2 0x200000) 1 ≡ by.Nobody)
-    × (told (with (holding 1 0x001000) 2 0x300000) 1 ≡ by.Nobody)
-    × (told (with (holding 1 0x1001000) 2 0x100000) 1 ≡ by.Nobody)
-    × (told (holding 90 0xE010000F) 90 ≡ by.Grant 0)
-    × (told (holding 96 0) 96 ≡ by.Grant 6)
-    × (told (holding 96 0) 97 ≡ by.Nobody)
-    × (told (holding 3 0x001000) 3 ≡ by.Nobody)
-    × (told (holding 1 0x001000) 202 ≡ by.Nobody)
+pub cells_hold : (told (holding 1 0x001000) 1 ≡ Some 3)
+    × (told (with (holding 1 0x001000) 2 0x000000) 1 ≡ Some 3)
+    × (told (with (holding 1 0x001000) 2 0x100000) 1 ≡ Some 2)
+    × (told (with (holding 1 0x001000) 2 0x200000) 1 ≡ None)
+    × (told (with (holding 1 0x001000) 2 0x300000) 1 ≡ None)
+    × (told (with (holding 1 0x1001000) 2 0x100000) 1 ≡ None)
+    × (told (holding 90 0xE010000F) 90 ≡ Some 0)
+    × (told (holding 96 0) 96 ≡ Some 6)
+    × (told (holding 96 0) 97 ≡ None)
+    × (told (holding 3 0x001000) 3 ≡ None)
+    × (told (holding 1 0x001000) 202 ≡ None)
 unfolding which_at which_from covers memory_of empty register_at register_in register_among sections target_group stage sample overlay scaler from
 cells_hold = (refl, refl, refl, refl, refl, refl, refl, refl, refl, refl, refl)

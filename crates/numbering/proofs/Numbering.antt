@@ -1,5 +1,6 @@
 -- Which grant of a list admits an address: the lowest-numbered, and nobody exactly if the address is not granted.
 -- Assumes nothing.
+use Rattle.std.specs.Prelude.{Option, Some, None}
 use mathlib.Core.Path.{◌≡◌, refl, sym, ap, subst, ◌∙◌}
 use mathlib.Core.Logic.{◌↔◌}
 use mathlib.Core.Bool.{Bool, true, false, ◌||◌, cond, and-false}
@@ -14,15 +15,13 @@ use mir.Facts.{and_yes}
 use Rattle.laws.specs.Lists.{every, some}
 use Rattle.laws.proofs.Tests.{holds_of, fails_of}
 use Rattle.meaning.specs.declared.Memory.{Memory}
-use Rattle.meaning.specs.declared.Which.{Which}
-use Rattle.meaning.specs.declared.Which.TheVariants as by
 use Rattle.meaning.specs.Grants.{Grant, grant_fine, covers, granted, which_from, which, is_grant}
 use Rattle.meaning.specs.Fitter.{Admits, Numbered, LowestOf, NoneOf}
 use Rattle.meaning.proofs.Fitter.{admits_iff, grant_rules}
 
 -- ---- granted by some grant
 
-pub some_first : (b : Bool) (n : ℕ) (w : Which) → is_grant (cond b (by.Grant n) w) ≡ (b || is_grant w)
+pub some_first : (b : Bool) (n : ℕ) (w : Option ℕ) → is_grant (cond b (Some n) w) ≡ (b || is_grant w)
 some_first true n w = refl
 some_first false n w = refl
 
@@ -39,12 +38,12 @@ granted_which = granted_from 0
 -- ---- what is told
 
 -- of grants from number k on
-data Told (gs : List Grant) (m : Memory) (role a k : ℕ) : Which → Type 0 where
-  found : (n i : ℕ) → i ≡ k + n → LowestOf gs m role a n → Told gs m role a k (by.Grant i)
-  none : NoneOf gs m role a → Told gs m role a k by.Nobody
+data Told (gs : List Grant) (m : Memory) (role a k : ℕ) : Option ℕ → Type 0 where
+  found : (n i : ℕ) → i ≡ k + n → LowestOf gs m role a n → Told gs m role a k (Some i)
+  none : NoneOf gs m role a → Told gs m role a k None
 
 -- the first grant admits it
-told_first : (g : Grant) (gs : List Grant) (m : Memory) (role a k : ℕ) → T (covers m role a g) → Told (g ∷ gs) m role a k (by.Grant k)
+told_first : (g : Grant) (gs : List Grant) (m : Memory) (role a k : ℕ) → T (covers m role a g) → Told (g ∷ gs) m role a k (Some k)
 told_first g gs m role a k t =
     found 0 k (omega arith) (record { grant = g; numbered = refl; admits = (admits_iff g m role a).0 t; lowest = λ i x l. absurd (omega arith) })
 
@@ -54,7 +53,7 @@ not_before : (g : Grant) (gs : List Grant) (m : Memory) (role a : ℕ) → ¬ T 
 not_before g gs m role a n zero x h e t = n ((admits_iff g m role a).1 (subst (λ (y : Grant). Admits y m role a) e t))
 not_before g gs m role a n (suc j) x h e t = h j refl e t
 
-told_later : (g : Grant) (gs : List Grant) (m : Memory) (role a k : ℕ) (w : Which) → ¬ T (covers m role a g) → Told gs m role a (suc k) w
+told_later : (g : Grant) (gs : List Grant) (m : Memory) (role a k : ℕ) (w : Option ℕ) → ¬ T (covers m role a g) → Told gs m role a (suc k) w
     → Told (g ∷ gs) m role a k w
 told_later g gs m role a k _ not (found n i e l) =
     found (suc n) i (omega arith) (record {
@@ -65,8 +64,8 @@ told_later g gs m role a k _ not (found n i e l) =
     })
 told_later g gs m role a k _ not (none h) = none (λ i x. not_before g gs m role a not i x (λ j e. h j x))
 
-told_next : (g : Grant) (gs : List Grant) (m : Memory) (role a k : ℕ) (w : Which) (b : Bool) → covers m role a g ≡ b → Told gs m role a (suc k) w
-    → Told (g ∷ gs) m role a k (cond b (by.Grant k) w)
+told_next : (g : Grant) (gs : List Grant) (m : Memory) (role a k : ℕ) (w : Option ℕ) (b : Bool) → covers m role a g ≡ b → Told gs m role a (suc k) w
+    → Told (g ∷ gs) m role a k (cond b (Some k) w)
 told_next g gs m role a k w true e rest = told_first g gs m role a k (holds_of e)
 told_next g gs m role a k w false e rest = told_later g gs m role a k w (fails_of e) rest
 
@@ -78,13 +77,13 @@ told (g ∷ gs) m role a k = told_next g gs m role a k (which_from (suc k) gs m 
 -- ---- and nothing else
 
 -- a grant is not nobody
-apart : {n : ℕ} → by.Nobody ≡ by.Grant n → ⊥
-apart {n} e = subst (λ (w : Which). T (is_grant w)) (sym e) tt
+apart : {n : ℕ} → None ≡ Some n → ⊥
+apart {n} e = subst (λ (w : Option ℕ). T (is_grant w)) (sym e) tt
 
 -- the number that is told
-abbrev number_of : Which → ℕ → ℕ
-number_of (by.Grant n) i = n
-number_of by.Nobody i = i
+abbrev number_of : Option ℕ → ℕ → ℕ
+number_of (Some n) i = n
+number_of None i = i
 
 module _ (gs : List Grant) (m : Memory) (role a : ℕ) where
   -- one grant is the lowest-numbered,
@@ -103,21 +102,21 @@ module _ (gs : List Grant) (m : Memory) (role a : ℕ) where
   lowest_some n l h = h n l.grant l.numbered l.admits
 
   -- G8 "The grant that admits an address of a role is the lowest-numbered one by which the role is granted it": exactly
-  pub lowest_iff : (n : ℕ) → (which gs m role a ≡ by.Grant n) ↔ LowestOf gs m role a n
+  pub lowest_iff : (n : ℕ) → (which gs m role a ≡ Some n) ↔ LowestOf gs m role a n
   lowest_iff n = from_told (which gs m role a) (told gs m role a 0)
     where
-      from_told : (w : Which) → Told gs m role a 0 w → (w ≡ by.Grant n) ↔ LowestOf gs m role a n
+      from_told : (w : Option ℕ) → Told gs m role a 0 w → (w ≡ Some n) ↔ LowestOf gs m role a n
       from_told _ (found i j e l) = (
-        λ f. subst (LowestOf gs m role a) (omega (arith, ap (λ (w : Which). number_of w 0) f)) l,
-        λ k. ap by.Grant (omega (arith, lowest_once i n l k)),
+        λ f. subst (LowestOf gs m role a) (omega (arith, ap (λ (w : Option ℕ). number_of w 0) f)) l,
+        λ k. ap Some (omega (arith, lowest_once i n l k)),
       )
       from_told _ (none h) = (λ e. absurd (apart e), λ k. absurd (lowest_some n k h))
 
   -- G8 "nobody admits it exactly if there is none."
-  pub none_iff : (which gs m role a ≡ by.Nobody) ↔ NoneOf gs m role a
+  pub none_iff : (which gs m role a ≡ None) ↔ NoneOf gs m role a
   none_iff = from_told (which gs m role a) (told gs m role a 0)
     where
-      from_told : (w : Which) → Told gs m role a 0 w → (w ≡ by.Nobody) ↔ NoneOf gs m role a
+      from_told : (w : Option ℕ) → Told gs m role a 0 w → (w ≡ None) ↔ NoneOf gs m role a
       from_told _ (found i j e l) = (λ f. absurd (apart (sym f)), λ h. absurd (lowest_some i l h))
       from_told _ (none h) = (λ e. h, λ k. refl)
 
@@ -137,7 +136,7 @@ not_covered g m role a fine far =
     let rules = grant_rules g fine in
     rw (lt-leb (a + g.reach) (g.start + g.length) (omega (arith, rules.end, rules.reach)), and-false, and-false, and-false)
 
-pub past_end : (k : ℕ) (gs : List Grant) (m : Memory) (role a : ℕ) → T (every grant_fine gs) → 2 ^ 32 ≤ a → which_from k gs m role a ≡ by.Nobody
+pub past_end : (k : ℕ) (gs : List Grant) (m : Memory) (role a : ℕ) → T (every grant_fine gs) → 2 ^ 32 ≤ a → which_from k gs m role a ≡ None
 unfolding which_from every
 past_end k [] m role a fine far = refl
 past_end k (g ∷ gs) m role a fine far =

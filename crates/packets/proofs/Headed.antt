@@ -7,14 +7,13 @@ use Prim.Native.Nat.{ℕ, ◌+◌, ◌≤◌, ◌<◌}
 use native.Mathlib.Numerals.{add-one}
 use lib.ListN.{length, get_or}
 use lib.Seq.{slice, slice-cons}
-use Rattle.meaning.specs.declared.Answer.{Answer}
 use Rattle.meaning.specs.declared.Kind.{Kind}
 use Rattle.meaning.specs.declared.Kind.TheVariants.{Setting, Parameter}
 use Rattle.meaning.specs.Grants.{Terms, most_grants}
 use Rattle.meaning.specs.Batch.{allowed}
 use Rattle.meaning.specs.State.{apply_all}
 use Rattle.meaning.specs.Positions.{kind_of, after, goes, carries}
-use Rattle.meaning.specs.Answers.{bad_setting}
+use Rattle.meaning.specs.Answers.{Answer, bad_setting}
 use Rattle.meaning.specs.Reader.{unless, header_reason, word_reason}
 use Rattle.grants.specs.declared.Part.{Part}
 use Rattle.grants.specs.Kept.{part_of, Bounded, Granting, Keeps}

@@ -14,12 +14,11 @@ use lib.Seq.{slice, take_all, length-take-le, drop-drop}
 use Rattle.laws.proofs.Rest.{rest}
 use Rattle.meaning.specs.declared.Kind.{Kind}
 use Rattle.meaning.specs.declared.Kind.TheVariants.{Setting}
-use Rattle.meaning.specs.declared.Answer.{Answer}
 use Rattle.meaning.specs.Words.{count}
 use Rattle.meaning.specs.Grants.{Terms}
 use Rattle.meaning.specs.State.{Write, apply, apply_all}
 use Rattle.meaning.specs.Positions.{kind_of, after, next_kind, next_left, write_at, writes_from, writes_of}
-use Rattle.meaning.specs.Answers.{success, ends_inside, answer}
+use Rattle.meaning.specs.Answers.{Answer, success, ends_inside, answer}
 use Rattle.meaning.specs.Reader.{header_reason, word_reason, judge, follow, ended, run, batch_answer}
 use Rattle.meaning.proofs.States.{applied_append}
 use Rattle.meaning.proofs.Stretches.{after_all}

@@ -14,14 +14,13 @@ use Rattle.laws.proofs.Lists.{all_unit}
 use Rattle.laws.proofs.Arms.{told_true, told_false}
 use Rattle.meaning.specs.declared.Memory.TheVariants.{Either, Only}
 use Rattle.meaning.specs.declared.Cell.{Cell}
-use Rattle.meaning.specs.declared.Answer.{Answer}
 use Rattle.meaning.specs.Registers.{cell, address, register_at, register_in, register_among, sections, target_group}
 use Rattle.meaning.specs.Grants.{Terms, terms_of, grants_of, grants_fine, granted, is_grant}
 use Rattle.meaning.specs.Batch.{reaches, Packet}
 use Rattle.meaning.specs.State.{state_words, value_at, mark_at, Write, apply_all, all_writes}
 use Rattle.meaning.specs.Pair.{target_cell, location_cell, target_of, pair_kept}
 use Rattle.meaning.specs.Positions.{writes_of}
-use Rattle.meaning.specs.Answers.{bad_pair, answer}
+use Rattle.meaning.specs.Answers.{Answer, bad_pair, answer}
 use Rattle.meaning.specs.Reader.{unless, batch_answer, paired_answer}
 use Rattle.meaning.specs.Reasons.{CellFine}
 use Rattle.meaning.proofs.Reading.{batch_permitted}

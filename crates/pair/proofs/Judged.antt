@@ -1,5 +1,6 @@
 -- What the code judges is the pair of the definitions, where the grants that are kept are those of a list; and what its tests come to.
 -- Assumes nothing.
+use Rattle.std.specs.Prelude.{Option, Some, None}
 use mathlib.Core.Path.{◌≡◌, refl, sym, ap, ◌∙◌}
 use mathlib.Core.Logic.{◌≢◌}
 use mathlib.Core.Bool.{Bool, true, false, ◌&&◌, ◌||◌}
@@ -16,8 +17,6 @@ use Rattle.laws.specs.Tests.{implies}
 use Rattle.laws.proofs.Arms.{told_true, told_false}
 use Rattle.laws.proofs.Tests.{true_of, holds_of}
 use Rattle.meaning.specs.declared.Memory.TheVariants.{Only}
-use Rattle.meaning.specs.declared.Which.{Which}
-use Rattle.meaning.specs.declared.Which.TheVariants as by
 use Rattle.meaning.specs.Grants.{grants_of, grants_fine, terms_of, is_grant, which}
 use Rattle.meaning.specs.State.{state_words, value_at, mark_at}
 use Rattle.meaning.specs.Pair.{target_cell, location_cell, memory_named, memory_of, target_of, pair_fine}
@@ -53,11 +52,11 @@ module _ (ws : List ℕ) (fine : T (grants_fine ws)) (starts lasts numbers bound
 -- ---- what the tests of `which_of` and `fine_of` come to
 
 module _ (starts lasts numbers : List ℕ) (part : Part) (p : Pair) where
-  pub too_wide : 2 ^ 24 ≤ p.target → by.Nobody ≡ which_pair starts lasts numbers part p
+  pub too_wide : 2 ^ 24 ≤ p.target → None ≡ which_pair starts lasts numbers part p
   unfolding which_pair
   too_wide l = rw (le-ltb p.target (2 ^ 24) l)
 
-  pub narrow : p.target < 2 ^ 24 → {m a : ℕ} {w : Which} → m ≡ memory_named p.located p.location → a ≡ p.target * 256
+  pub narrow : p.target < 2 ^ 24 → {m a : ℕ} {w : Option ℕ} → m ≡ memory_named p.located p.location → a ≡ p.target * 256
       → w ≡ which_in starts lasts numbers part (Only m) a → w ≡ which_pair starts lasts numbers part p
   unfolding which_pair
   narrow l e f w = rw (lt-ltb p.target (2 ^ 24) l) (w ∙ rw (e, f))
@@ -66,12 +65,12 @@ module _ (starts lasts numbers : List ℕ) (part : Part) (p : Pair) where
   unfolding fine_in
   unmarked z = rw z
 
-  module _ (n : p.marked ≢ 0) {w : Which} (e : w ≡ which_pair starts lasts numbers part p) where
-    pub nobody : w ≡ by.Nobody → false ≡ fine_in starts lasts numbers part p
+  module _ (n : p.marked ≢ 0) {w : Option ℕ} (e : w ≡ which_pair starts lasts numbers part p) where
+    pub nobody : w ≡ None → false ≡ fine_in starts lasts numbers part p
     unfolding fine_in
     nobody f = rw (lt-ltb 0 p.marked (omega arith), ← e, f)
 
-    pub somebody : {k : ℕ} → w ≡ by.Grant k → true ≡ fine_in starts lasts numbers part p
+    pub somebody : {k : ℕ} → w ≡ Some k → true ≡ fine_in starts lasts numbers part p
     unfolding fine_in
     somebody f = rw (lt-ltb 0 p.marked (omega arith), ← e, f)
 

@@ -1,10 +1,8 @@
 -- What the code judges a pair by: two values, two marks, and grants as they are kept.
 -- Assumes nothing.
-use Rattle.std.specs.Prelude.{Bool, cond, List, ℕ, ◌*◌, ◌<◌, ◌^◌, T, ltb}
+use Rattle.std.specs.Prelude.{Bool, cond, List, ℕ, ◌*◌, ◌<◌, ◌^◌, T, ltb, Option, None}
 use Rattle.laws.specs.Tests.{implies}
 use Rattle.meaning.specs.declared.Memory.TheVariants.{Only}
-use Rattle.meaning.specs.declared.Which.{Which}
-use Rattle.meaning.specs.declared.Which.TheVariants as by
 use Rattle.meaning.specs.Grants.{is_grant}
 use Rattle.meaning.specs.State.{value_at, mark_at}
 use Rattle.meaning.specs.Pair.{target_cell, location_cell, memory_named, target_of}
@@ -24,11 +22,11 @@ pair_of st =
     }
 
 -- the kept grant that admits the target's address in the memory that the location names; a value of more than 24 bits has none
-unfoldable pub which_pair : List ℕ → List ℕ → List ℕ → Part → Pair → Which
+unfoldable pub which_pair : List ℕ → List ℕ → List ℕ → Part → Pair → Option ℕ
 which_pair starts lasts numbers part p =
     cond (ltb p.target (2 ^ 24))
     (which_in starts lasts numbers part (Only (memory_named p.located p.location)) (p.target * 256))
-    by.Nobody
+    None
 
 -- the target is not marked, or there is one
 unfoldable pub fine_in : List ℕ → List ℕ → List ℕ → Part → Pair → Bool

@@ -7,12 +7,11 @@ use mathlib.Core.List.{List}
 use lib.Dec.{T, eqb}
 use Prim.Native.Nat.{ℕ}
 use Rattle.laws.proofs.Tests.{true_of}
-use Rattle.meaning.specs.declared.Answer.{Answer}
 use Rattle.meaning.specs.Grants.{grants_fine, terms_of}
 use Rattle.meaning.specs.State.{well_formed}
 use Rattle.meaning.specs.Pair.{wrote_pair, pair_kept}
 use Rattle.meaning.specs.Positions.{writes_of}
-use Rattle.meaning.specs.Answers.{provided}
+use Rattle.meaning.specs.Answers.{Answer, provided}
 use Rattle.meaning.specs.Reader.{unless, batch_answer, paired_answer, read_answer}
 use Rattle.meaning.proofs.States.{formed_iff}
 use Rattle.pairing.specs.Same.{SamePair}

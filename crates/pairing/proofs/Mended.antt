@@ -1,6 +1,7 @@
 -- What whole permitted packets start with, some permitted batch starts with: one packet more writes a pair that is granted. So the place
 -- of any refusal is the length of the longest beginning of the batch that some permitted batch begins with.
 -- Assumes nothing.
+use Rattle.std.specs.Prelude.{Some}
 use mathlib.Core.Path.{◌≡◌, refl, sym, ap, ◌∙◌, subst}
 use mathlib.Core.Logic.{◌≢◌}
 use mathlib.Core.Bool.{Bool, true, false, cond}
@@ -14,9 +15,7 @@ use lib.ListN.{length, take}
 use lib.Seq.{take-length}
 use Rattle.laws.specs.Lists.{All, every, some, from, join}
 use Rattle.laws.proofs.Lists.{all_append, join_append}
-use Rattle.meaning.specs.declared.Found.TheVariants.{At}
 use Rattle.meaning.specs.declared.Memory.TheVariants.{Either, Only}
-use Rattle.meaning.specs.declared.Answer.{Answer}
 use Rattle.meaning.specs.Words.{Word, bits, count, offset, para_adr, para_os, para_type, para_sub_type}
 use Rattle.meaning.specs.Registers.{cells, location, target_group, stage, sample, overlay, scaler, sections, find, find_among, find_3d, register_among, register_in, register_at}
 use Rattle.meaning.specs.Grants.{Terms, terms_of, grant_fine, grants_fine, granted}
@@ -24,7 +23,7 @@ use Rattle.meaning.specs.Batch.{Fits, named, allowed_types, type_allowed, allowe
 use Rattle.meaning.specs.State.{value_at, mark_at, well_formed, Write, writes_3d, packet_writes, apply_all, all_writes}
 use Rattle.meaning.specs.Pair.{target_cell, location_cell, memory_of, pair_fine, pair_kept, Begins, Longest}
 use Rattle.meaning.specs.Positions.{writes_of}
-use Rattle.meaning.specs.Answers.{answer}
+use Rattle.meaning.specs.Answers.{Answer, answer}
 use Rattle.meaning.specs.Reader.{unless, batch_answer, paired_answer, read_answer}
 use Rattle.meaning.proofs.Reading.{batch_permitted, batch_length}
 use Rattle.meaning.proofs.Places.{Started, refusal_stops}
@@ -83,11 +82,11 @@ written50 v = record { cell = target_cell; value = v }
 abbrev written51 : ℕ → Write
 written51 m = record { cell = location_cell; value = m * 2 ^ 20 }
 
-found_50 : find_3d 0x01 0x00 (record { 0 = 0x50 }) ≡ At target_cell
+found_50 : find_3d 0x01 0x00 (record { 0 = 0x50 }) ≡ Some target_cell
 unfolding find_3d find_among find sections target_group stage sample overlay scaler from
 found_50 = refl
 
-found_51 : find_3d 0x01 0x00 (record { 0 = 0x51 }) ≡ At location_cell
+found_51 : find_3d 0x01 0x00 (record { 0 = 0x51 }) ≡ Some location_cell
 unfolding find_3d find_among find sections target_group stage sample overlay scaler from
 found_51 = refl
 
@@ -111,10 +110,10 @@ module _ (g : Terms) (M : Mend g) where
   small : m * 2 ^ 20 < 2 ^ 24
   small = omega (arith, M.named)
 
-  named_50 : named 0x00010000 (word50 v) ≡ At target_cell
+  named_50 : named 0x00010000 (word50 v) ≡ Some target_cell
   named_50 = parameter_named 0x01 0x00 (lit< tt) (lit< tt) (record { 0 = 0x50 }) v (lit< tt) M.narrow ∙ found_50
 
-  named_51 : named 0x00010000 (word51 m) ≡ At location_cell
+  named_51 : named 0x00010000 (word51 m) ≡ Some location_cell
   named_51 = parameter_named 0x01 0x00 (lit< tt) (lit< tt) (record { 0 = 0x51 }) (m * 2 ^ 20) (lit< tt) small ∙ found_51
 
   mending_permitted : Packet g (mending v m)

@@ -12,13 +12,12 @@ use lib.Seq.{take_at}
 use mir.Facts.{and_yes, yes_and, yes_leb, eqb_yes, yes_eqb}
 use Rattle.laws.specs.Lists.{All, every, over}
 use Rattle.laws.proofs.Tests.{true_of, false_of}
-use Rattle.meaning.specs.declared.Answer.{Answer}
 use Rattle.meaning.specs.Words.{Byte, Word, words_of, bytes_of}
 use Rattle.meaning.specs.Grants.{grants_fine, terms_of}
 use Rattle.meaning.specs.Batch.{HoldableTarget, HoldableScaler}
 use Rattle.meaning.specs.Pair.{pair_fine, Permitted, Longest}
 use Rattle.meaning.specs.State.{well_formed, empty}
-use Rattle.meaning.specs.Answers.{answer, number_of}
+use Rattle.meaning.specs.Answers.{Answer, answer, number_of}
 use Rattle.meaning.specs.Reader.{read_answer, read_leaves}
 use Rattle.meaning.specs.Writer.{written, write_answer}
 use Rattle.meaning.specs.Exported.{buffer_fine, word_buffer_fine, exported_read, exported_read_leaves, exported_write, exported_write_leaves, exported_list, exported_list_leaves}

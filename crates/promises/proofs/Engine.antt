@@ -9,11 +9,10 @@ use lib.Dec.{T}
 use lib.ListN.{length}
 use Rattle.laws.specs.Lists.{All}
 use Rattle.laws.proofs.Tests.{true_of}
-use Rattle.meaning.specs.declared.Answer.{Answer}
 use Rattle.meaning.specs.Words.{Byte, words_of}
 use Rattle.meaning.specs.Grants.{grants_fine}
 use Rattle.meaning.specs.State.{well_formed, empty}
-use Rattle.meaning.specs.Answers.{engine_full, answer}
+use Rattle.meaning.specs.Answers.{Answer, engine_full, answer}
 use Rattle.meaning.specs.Reader.{read_answer, read_leaves}
 use Rattle.meaning.specs.Engine.{most_fed, word_refused, opening, feeding, closing, call_answer, engine_answer, engine_leaves}
 use Rattle.meaning.specs.Reasons.{EngineGives}

@@ -12,14 +12,13 @@ use lib.ListN.{take, length, get_or}
 use lib.Seq.{length-take-le, get_or-append-add}
 use Rattle.laws.specs.Lists.{from}
 use Rattle.laws.proofs.Tests.{holds_of}
-use Rattle.meaning.specs.declared.Answer.{Answer}
 use Rattle.meaning.specs.Words.{words_of}
 use Rattle.meaning.specs.Registers.{cells, cell}
 use Rattle.meaning.specs.Grants.{Terms, terms_of, most_grants, grants_fine, grants_of}
 use Rattle.meaning.specs.State.{well_formed, empty, state_words, mark_at, apply_all}
 use Rattle.meaning.specs.Pair.{target_cell, location_cell, pair_kept}
 use Rattle.meaning.specs.Positions.{writes_of}
-use Rattle.meaning.specs.Answers.{success, answer}
+use Rattle.meaning.specs.Answers.{Answer, success, answer}
 use Rattle.meaning.specs.Engine as engine
 use Rattle.meaning.proofs.States.{Formed, formed_iff}
 use Rattle.meaning.proofs.Pairs.{Low}

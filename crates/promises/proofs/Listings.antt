@@ -13,11 +13,10 @@ use lib.Seq.{take_at}
 use mir.Facts.{and_yes, yes_and, eqb_yes, yes_eqb, leb_yes, yes_leb}
 use Rattle.laws.specs.Lists.{All, over}
 use Rattle.laws.proofs.Tests.{true_of}
-use Rattle.meaning.specs.declared.Answer.{Answer}
 use Rattle.meaning.specs.Words.{Byte, Word, words_of, bytes_of}
 use Rattle.meaning.specs.Registers.{cells, first_video, cell, register_at}
 use Rattle.meaning.specs.State.{state_words, value_at, well_formed}
-use Rattle.meaning.specs.Answers.{answer}
+use Rattle.meaning.specs.Answers.{Answer, answer}
 use Rattle.meaning.specs.Lister.{listing}
 use Rattle.meaning.specs.Listings.{Listable, Listed, LongestListing}
 use Rattle.meaning.specs.ListingReader.{listing_leaves}

@@ -6,7 +6,7 @@ use mathlib.Core.Path.{◌≡◌, sym, ap₂, ◌∙◌}
 use mathlib.Core.List.{List, []}
 use Prim.Native.Nat.{ℕ}
 use native.Mathlib.Omega.{arith}
-use Rattle.meaning.specs.declared.Answer.{Answer}
+use Rattle.meaning.specs.Answers.{Answer}
 use Rattle.meaning.specs.Grants.{Terms}
 use Rattle.grants.proofs.Keeping.{part_some, kept_some}
 use Rattle.rows_video.specs.Scalers.{first}

@@ -9,7 +9,6 @@ use native.Mathlib.Omega.{arith}
 use lib.Dec.{T}
 use lib.ListN.{length, drop, get_or}
 use Rattle.laws.specs.Lists.{All}
-use Rattle.meaning.specs.declared.Answer.{Answer}
 use Rattle.meaning.specs.Words.{Byte, Word, words_of, bytes_of}
 use Rattle.meaning.specs.Registers.{cells, cell}
 use Rattle.meaning.specs.Grants.{grants_of, grants_fine, terms_of, Terms}
@@ -17,7 +16,7 @@ use Rattle.meaning.specs.Batch.{Cut, HoldableTarget, HoldableScaler}
 use Rattle.meaning.specs.State.{value_at, mark_at, well_formed, empty, Write, apply_all, all_writes}
 use Rattle.meaning.specs.Pair.{wrote_pair, Permitted, Longest, Reached}
 use Rattle.meaning.specs.Positions.{writes_of}
-use Rattle.meaning.specs.Answers.{answer}
+use Rattle.meaning.specs.Answers.{Answer, answer}
 use Rattle.meaning.specs.Reader.{read_leaves}
 use Rattle.meaning.specs.Writer.{written}
 use Rattle.meaning.specs.Lister.{listing, list_answer, list_leaves}

@@ -1,5 +1,6 @@
 -- What is promised of the test of an address, and of the query: which grant admits it.
 -- Assumes nothing.
+use Rattle.std.specs.Prelude.{Option, Some, None}
 use mathlib.Core.Path.{◌≡◌, refl, sym, ap, subst, ◌∙◌}
 use mathlib.Core.Logic.{◌↔◌, ◌≢◌}
 use mathlib.Core.List.{List, [], ◌∷◌, ◌++◌}
@@ -14,16 +15,13 @@ use Rattle.laws.proofs.Lists.{all_split}
 use Rattle.laws.proofs.Tests.{true_of, within_iff, or_left, or_right}
 use Rattle.meaning.specs.declared.Memory.{Memory}
 use Rattle.meaning.specs.declared.Memory.TheVariants.{Either}
-use Rattle.meaning.specs.declared.Which.{Which}
-use Rattle.meaning.specs.declared.Which.TheVariants as by
-use Rattle.meaning.specs.declared.Answer.{Answer}
 use Rattle.meaning.specs.Words.{Byte, words_of}
 use Rattle.meaning.specs.Registers.{cells, cell, Content, nothing, address, target_group, sections, register_among, register_in, register_at}
 use Rattle.meaning.specs.Grants.{Grant, grants_of, grants_fine, terms_of, granted, which, is_grant}
 use Rattle.meaning.specs.Batch.{Cut}
 use Rattle.meaning.specs.State.{value_at, mark_at, well_formed, Write, all_writes}
 use Rattle.meaning.specs.Pair.{target_cell, looked_at, target_of, wrote_pair}
-use Rattle.meaning.specs.Answers.{answer}
+use Rattle.meaning.specs.Answers.{Answer, answer}
 use Rattle.meaning.specs.Exported.{exported_which_grant}
 use Rattle.meaning.specs.Reasons.{HoldsAddress, QueryGives, admitted}
 use Rattle.meaning.specs.Fitter.{Inside, LowestOf, NoneOf, OfAddress, Stores, OfTarget}
@@ -54,18 +52,18 @@ queries_bytes κs a r s p = p
 
 -- ==== The test of an address, as reader, writer, engine and query make it
 
-module _ (ws : List ℕ) (m : Memory) (role a : ℕ) (w : Which) (fine : T (grants_fine ws)) (low : 1 ≤ role) (high : role < 4) (test : Testing ws m role a w) where
+module _ (ws : List ℕ) (m : Memory) (role a : ℕ) (w : Option ℕ) (fine : T (grants_fine ws)) (low : 1 ≤ role) (high : role < 4) (test : Testing ws m role a w) where
   -- it is the definition's
   test_is : w ≡ which (grants_of ws) m role a
   test_is = test.told ∙ sym (names ws test.starts test.lasts test.numbers (true_of (grants_fine ws) fine) test.room m role low high a)
 
   -- G8 "The grant that admits an address of a role is the lowest-numbered one by which the role is granted it": that one is told, and no other,
   -- in whichever memory, and G10 "what G8 says holds there of the grants in it" in one
-  pub which_is_the_lowest : (n : ℕ) → (w ≡ by.Grant n) ↔ LowestOf (grants_of ws) m role a n
+  pub which_is_the_lowest : (n : ℕ) → (w ≡ Some n) ↔ LowestOf (grants_of ws) m role a n
   which_is_the_lowest n = rw test_is (lowest_iff (grants_of ws) m role a n)
 
   -- G8 "nobody admits it exactly if there is none."
-  pub nobody_exactly : (w ≡ by.Nobody) ↔ NoneOf (grants_of ws) m role a
+  pub nobody_exactly : (w ≡ None) ↔ NoneOf (grants_of ws) m role a
   nobody_exactly = rw test_is (none_iff (grants_of ws) m role a)
 
   -- so that an address is granted exactly if some grant is told
@@ -87,12 +85,12 @@ module _ (st grants : List ℕ) (c : ℕ) (a : Answer) (query : Querying st gran
 inside_named : (ws : List ℕ) → T (grants_fine ws) → (m : Memory) (role x : ℕ) → Inside (grants_of ws) m role x → (n : ℕ) × ((n < 64) × LowestOf (grants_of ws) m role x n)
 inside_named ws fine m role x i = by_which (which (grants_of ws) m role x) refl
   where
-    by_which : (w : Which) → which (grants_of ws) m role x ≡ w → (n : ℕ) × ((n < 64) × LowestOf (grants_of ws) m role x n)
-    by_which (by.Grant n) e =
+    by_which : (w : Option ℕ) → which (grants_of ws) m role x ≡ w → (n : ℕ) × ((n < 64) × LowestOf (grants_of ws) m role x n)
+    by_which (Some n) e =
         let l = (lowest_iff (grants_of ws) m role x n).0 e in
         (n, (omega (arith, numbered_low n l.grant (grants_of ws) l.numbered, length_grants ws, (fine_list ws fine).1), l))
-    by_which by.Nobody e =
-        let t : T (is_grant by.Nobody) = subst (λ (w : Which). T (is_grant w)) e (subst T (granted_which (grants_of ws) m role x) ((granted_iff (grants_of ws) m role x).1 i)) in
+    by_which None e =
+        let t : T (is_grant None) = subst (λ (w : Option ℕ). T (is_grant w)) e (subst T (granted_which (grants_of ws) m role x) ((granted_iff (grants_of ws) m role x).1 i)) in
         absurd t
 
 -- in one memory is in some

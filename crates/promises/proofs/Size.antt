@@ -10,13 +10,12 @@ use borrow.Author.Tests.{eqb-false}
 use lib.Dec.{T, eqb}
 use lib.ListN.{length, drop}
 use Rattle.laws.proofs.Tests.{true_of}
-use Rattle.meaning.specs.declared.Answer.{Answer}
 use Rattle.meaning.specs.Words.{words_of, bytes_of}
 use Rattle.meaning.specs.Registers.{cells, cell}
 use Rattle.meaning.specs.Grants.{grants_fine, terms_of}
 use Rattle.meaning.specs.State.{well_formed}
 use Rattle.meaning.specs.Pair.{Reached}
-use Rattle.meaning.specs.Answers.{bad_buffer, success, answer, number_of, provided}
+use Rattle.meaning.specs.Answers.{Answer, bad_buffer, success, answer, number_of, provided}
 use Rattle.meaning.specs.Writer.{written, size_of, in_room}
 use Rattle.meaning.specs.Exported.{word_buffer_fine, exported_size, exported_write, exported_write_leaves}
 use Rattle.meaning.specs.Reasons.{Writable, SizeGives, WriterGives}

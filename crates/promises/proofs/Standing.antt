@@ -1,5 +1,7 @@
 -- What an engine keeps after a word stands for what the step makes of what stood before.
 -- Assumes nothing.
+use Rattle.meaning.specs.declared.Cell.{Cell}
+use Rattle.std.specs.Prelude.{Option, Some, None}
 use mathlib.Core.Path.{◌≡◌, refl, sym, ap, ◌∙◌}
 use mathlib.Core.Bool.{Bool, true, false, cond}
 use mathlib.Core.List.{List, [], ◌∷◌, ◌++◌}
@@ -9,8 +11,6 @@ use borrow.Author.Tests.{lt-ltb}
 use lib.Dec.{leb, ltb}
 use lib.ListN.{length, set, length-set}
 use lib.Seq.{set-append_left}
-use Rattle.meaning.specs.declared.Found.{Found}
-use Rattle.meaning.specs.declared.Found.TheVariants.{At, Missing}
 use Rattle.meaning.specs.declared.Kind.{Kind}
 use Rattle.meaning.specs.declared.Kind.TheVariants.{Setting, Parameter, Video}
 use Rattle.meaning.specs.Words.{sub_address, data24, para_type, para_sub_type}
@@ -53,13 +53,13 @@ module _ (values marks : List ℕ) (n : length values ≡ cells) (four : length 
       ∙ ap (λ (l : List ℕ). set values c v ++ l) (sym (mark_set marks four c h))
 
   -- by the register that was found
-  found_written : (m : ℕ) (f : Found) (v : ℕ) → Of (Wide m) f
+  found_written : (m : ℕ) (f : Option Cell) (v : ℕ) → Of (Wide m) f
       → cond (ltb (cell_of (write_to f v)).0 cells) (set values (cell_of (write_to f v)).0 (value_of (write_to f v))) values
       ++ marks_of (cond (ltb (cell_of (write_to f v)).0 cells) (with_mark marks (cell_of (write_to f v)).0) marks)
       ≡ apply_all (values ++ marks_of marks) (write_to f v)
   unfolding apply_all
-  found_written m (At c) v low = rw (lt-ltb c.0 cells low.0) (sym (one_written c.0 v low.0))
-  found_written m Missing v low = refl
+  found_written m (Some c) v low = rw (lt-ltb c.0 cells low.0) (sym (one_written c.0 v low.0))
+  found_written m None v low = refl
 
   -- what a word writes
   pub word_written : (kind : Kind) (k w : ℕ)

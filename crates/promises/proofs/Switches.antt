@@ -9,7 +9,7 @@ use native.Mathlib.Omega.{arith}
 use lib.Dec.{T}
 use lib.ListN.{length, take}
 use Rattle.laws.specs.Lists.{All}
-use Rattle.meaning.specs.declared.Answer.{Answer}
+use Rattle.meaning.specs.Answers.{Answer}
 use Rattle.meaning.specs.Words.{Byte, Word, words_of, bytes_of}
 use Rattle.meaning.specs.Grants.{grants_of, grants_fine, terms_of}
 use Rattle.meaning.specs.State.{state_words, well_formed, apply_all}

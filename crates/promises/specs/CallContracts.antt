@@ -1,15 +1,13 @@
 -- What the contracts of reader, size, writer, lister, listing reader, engine and query allow, and those of the calls of the driver: an answer, and what
 -- is left in the buffer that is lent to be changed.
 -- Assumes nothing.
-use Rattle.std.specs.Prelude.{◌≡◌, ◌↔◌, ◌&&◌, cond, List, [], ◌∷◌, ◌++◌, ℕ, ◌/◌, ◌%◌, T, eqb, length, replicate}
+use Rattle.std.specs.Prelude.{◌≡◌, ◌↔◌, ◌&&◌, cond, List, [], ◌∷◌, ◌++◌, ℕ, ◌/◌, ◌%◌, T, eqb, length, replicate, Option}
 use Rattle.laws.specs.Lists.{All, every, over}
 use Rattle.meaning.specs.declared.Memory.{Memory}
-use Rattle.meaning.specs.declared.Which.{Which}
-use Rattle.meaning.specs.declared.Answer.{Answer}
 use Rattle.meaning.specs.Words.{Byte, words_of, bytes_of}
 use Rattle.meaning.specs.Registers.{cell}
 use Rattle.meaning.specs.Grants.{Terms, most_grants, grants_of}
-use Rattle.meaning.specs.Answers.{success, answer, number_of, settle}
+use Rattle.meaning.specs.Answers.{Answer, success, answer, number_of, settle}
 use Rattle.meaning.specs.Reader.{read_answer, read_leaves}
 use Rattle.meaning.specs.Writer.{written, size_answer, write_answer}
 use Rattle.meaning.specs.Query.{query_answer}
@@ -61,7 +59,7 @@ Querying st grants c a = a ≡ query_answer (words_of st) (words_of grants) (cel
 
 -- the test that all of them use: in the part of a role of what `keeping::place` left of a grant list, in whatever room it was lent,
 -- `grants::which` answers w to an address, in whichever memory or in one
-pub record Testing (ws : List ℕ) (m : Memory) (role a : ℕ) (w : Which) : Type 0 where
+pub record Testing (ws : List ℕ) (m : Memory) (role a : ℕ) (w : Option ℕ) : Type 0 where
   pub starts : List ℕ
   pub lasts : List ℕ
   pub numbers : List ℕ

@@ -1,5 +1,6 @@
 -- What the query answers, step by step: of a value, of a cell, of a call.
 -- Assumes nothing.
+use Rattle.std.specs.Prelude.{Option, None}
 use mathlib.Core.Path.{◌≡◌, refl, sym, ap, ◌∙◌}
 use mathlib.Core.Logic.{◌≢◌}
 use mathlib.Core.Bool.{true, false}
@@ -10,8 +11,6 @@ use borrow.Author.Tests.{lt-ltb, le-ltb, ne_eqb}
 use Rattle.meaning.specs.declared.Cell.{Cell}
 use Rattle.meaning.specs.declared.Memory.{Memory}
 use Rattle.meaning.specs.declared.Memory.TheVariants.{Either, Only}
-use Rattle.meaning.specs.declared.Which.{Which}
-use Rattle.meaning.specs.declared.Which.TheVariants as by
 use Rattle.meaning.specs.Words.{bits}
 use Rattle.meaning.specs.Registers.{cells, cell, target_group, sections, register_among, register_in, register_at}
 use Rattle.meaning.specs.Grants.{Terms, most_grants, grants_of, terms_of, grants_fine, which}
@@ -31,12 +30,12 @@ part_inside bounds inside role high e = rw e (inside role high)
 
 -- in the register of a cell, whose role is known
 module _ (c : Cell) (v : ℕ) (role : ℕ) (held : (v : ℕ) → (register_at c).holds v ≡ held_as role v) (ws : List ℕ) where
-  pub stored_none : role ≡ 0 → by.Nobody ≡ which_stored (terms_of ws) Either c v
+  pub stored_none : role ≡ 0 → None ≡ which_stored (terms_of ws) Either c v
   stored_none e = rw (held v, e)
 
   -- what the test tells of the address, in the part of the role
   pub stored_scaler : (starts lasts numbers bounds : List ℕ) → Names (terms_of ws) starts lasts numbers bounds → {part : Part} → part ≡ part_of bounds role → role < 4
-      → role ≢ 0 → {a : ℕ} {w : Which} → a ≡ bits 28 4 v * 16 → w ≡ which_in starts lasts numbers part Either a → w ≡ which_stored (terms_of ws) Either c v
+      → role ≢ 0 → {a : ℕ} {w : Option ℕ} → a ≡ bits 28 4 v * 16 → w ≡ which_in starts lasts numbers part Either a → w ≡ which_stored (terms_of ws) Either c v
   stored_scaler starts lasts numbers bounds names {part} own high n {a} {w} same told =
       let here : w ≡ which (grants_of ws) Either role (bits 28 4 v * 16) = told ∙ rw (own, same) (sym (names Either role (omega arith) high (bits 28 4 v * 16))) in
       here ∙ rw (held v) (scaler_role role n)
@@ -53,12 +52,12 @@ unfolding register_at register_in register_among sections target_group
 target_stored g st = refl
 
 module _ (g : Terms) (st : List ℕ) (c : Cell) where
-  pub at_no_cell : cells ≤ c.0 → by.Nobody ≡ which_at g st c
+  pub at_no_cell : cells ≤ c.0 → None ≡ which_at g st c
   unfolding which_at
   at_no_cell h = rw (le-ltb c.0 cells h)
 
   module _ (h : c.0 < cells) {mark : ℕ} (e : mark ≡ mark_at st c) where
-    pub at_unmarked : mark ≡ 0 → by.Nobody ≡ which_at g st c
+    pub at_unmarked : mark ≡ 0 → None ≡ which_at g st c
     unfolding which_at
     at_unmarked z = rw (lt-ltb c.0 cells h, sym e, z)
 
@@ -71,13 +70,13 @@ module _ (g : Terms) (st : List ℕ) (c : Cell) where
         is_mark_lem (suc m) n = refl
 
     -- cell 1, in the memory that cell 2 names
-    pub at_target : mark ≢ 0 → c.0 ≡ 1 → {w : Which} → w ≡ which g.grants (Only (memory_of st)) 1 (target_of st) → w ≡ which_at g st c
+    pub at_target : mark ≢ 0 → c.0 ≡ 1 → {w : Option ℕ} → w ≡ which g.grants (Only (memory_of st)) 1 (target_of st) → w ≡ which_at g st c
     at_target n is told =
         let same : c ≡ target_cell = ap cell is in
         told ∙ sym (rw same (target_stored g st)) ∙ marked_at n
 
     -- any other
-    pub at_other : mark ≢ 0 → c.0 ≢ 1 → {v : ℕ} {w : Which} → v ≡ value_at st c → w ≡ which_stored g Either c v → w ≡ which_at g st c
+    pub at_other : mark ≢ 0 → c.0 ≢ 1 → {v : ℕ} {w : Option ℕ} → v ≡ value_at st c → w ≡ which_stored g Either c v → w ≡ which_at g st c
     at_other n other {v} {w} same told =
         told ∙ ap (which_stored g Either c) same ∙ ap (λ (m : Memory). which_stored g m c (value_at st c)) (sym elsewhere) ∙ marked_at n
       where
@@ -96,6 +95,6 @@ module _ (st grants : List ℕ) (c : Cell) where
     unfolding query_answer
     grants_refused f = rw (e, f)
 
-    pub told : grants_fine grants ≡ true → {w : Which} {p : ℕ} → w ≡ which_at (terms_of grants) st c → p ≡ place_of w → answer success p ≡ query_answer st grants c
+    pub told : grants_fine grants ≡ true → {w : Option ℕ} {p : ℕ} → w ≡ which_at (terms_of grants) st c → p ≡ place_of w → answer success p ≡ query_answer st grants c
     unfolding query_answer
     told f w p = rw (e, f, p, w)

@@ -12,13 +12,12 @@ use borrow.Author.Tests.{ne_eqb}
 use Rattle.laws.specs.Lists.{over}
 use Rattle.laws.proofs.Tests.{holds_of}
 use Rattle.meaning.specs.declared.Kind.TheVariants.{Setting}
-use Rattle.meaning.specs.declared.Answer.{Answer}
 use Rattle.meaning.specs.Words.{words_of, bytes_of}
 use Rattle.meaning.specs.Grants.{Terms, terms_of, grants_fine}
 use Rattle.meaning.specs.State.{state_words, mark_at, well_formed, Write, apply_all}
 use Rattle.meaning.specs.Pair.{target_cell, location_cell, pair_kept}
 use Rattle.meaning.specs.Positions.{writes_of}
-use Rattle.meaning.specs.Answers.{bad_state, bad_grants, bad_pair, answer, settle}
+use Rattle.meaning.specs.Answers.{Answer, bad_state, bad_grants, bad_pair, answer, settle}
 use Rattle.meaning.specs.Reader.{batch_answer, paired_answer, read_answer, read_leaves}
 use Rattle.grants.specs.declared.Part.{Part}
 use Rattle.grants.specs.Kept.{Keeps, Names, part_of}

@@ -1,5 +1,6 @@
 -- The names of the cells are the table's, and so are the runs of video registers: computed tests over the cells and over the rows.
 -- Assumes nothing.
+use Rattle.std.specs.Prelude.{Option, Some, None}
 use mathlib.Core.Path.{◌≡◌, refl, sym, ap, subst, ◌∙◌}
 use mathlib.Core.Bool.{Bool, true, false, ◌&&◌, not, cond}
 use mathlib.Core.List.{List, [], ◌∷◌}
@@ -13,8 +14,6 @@ use Rattle.laws.proofs.Lists.{every_from, every_all}
 use Rattle.laws.proofs.Tests.{true_of}
 use Rattle.meaning.specs.declared.Cell.{Cell}
 use Rattle.meaning.specs.declared.VideoOffset.{VideoOffset}
-use Rattle.meaning.specs.declared.Found.{Found}
-use Rattle.meaning.specs.declared.Found.TheVariants.{At, Missing}
 use Rattle.meaning.specs.Words.{following}
 use Rattle.meaning.specs.Registers.{first_video, end_video, cell, Row, Section, of_3d, of_video, target_group, stage, sample, overlay, scaler, sections, find, find_among, find_3d, first_found, find_offset, find_video, is_found}
 use Rattle.meaning.specs.Reader.{run_in}
@@ -38,60 +37,60 @@ unfolding every from is_at offset_of find_video find_offset find sections overla
 tested_video = tt
 
 -- the name of a 3D cell names it
-pub named_3d : (c : ℕ) → c < first_video → find_3d (type_of (cell c)) (sub_type_of (cell c)) (address_of (cell c)) ≡ At (cell c)
+pub named_3d : (c : ℕ) → c < first_video → find_3d (type_of (cell c)) (sub_type_of (cell c)) (address_of (cell c)) ≡ Some (cell c)
 named_3d c h = is_at_lem c _ (every_from is_3d 0 first_video tested_3d c (omega arith) (omega arith))
 
 -- and the offset of a video cell
-pub named_video : (c : ℕ) → first_video ≤ c → c < end_video → find_video (offset_of (cell c)) ≡ At (cell c)
+pub named_video : (c : ℕ) → first_video ≤ c → c < end_video → find_video (offset_of (cell c)) ≡ Some (cell c)
 named_video c l h = is_at_lem c _ (every_from is_video first_video (end_video - first_video) tested_video c l (omega arith))
 
 -- ---- runs
 
 -- where k registers stand in a row from an offset on and no more, a run of n stays among them exactly if n ≤ k
-runs : (k : ℕ) (o : VideoOffset) → T (run_in o k) → find_video (record { 0 = o.0 + 4 * k }) ≡ Missing → (n : ℕ) → run_in o n ≡ leb n k
+runs : (k : ℕ) (o : VideoOffset) → T (run_in o k) → find_video (record { 0 = o.0 + 4 * k }) ≡ None → (n : ℕ) → run_in o n ≡ leb n k
 unfolding run_in
 runs k o t e zero = sym (leb-zero k)
 runs zero o t e (suc n) =
-    let none : find_video o ≡ Missing = sym (ap (λ (x : ℕ). find_video (record { 0 = x })) (omega arith)) ∙ e in
+    let none : find_video o ≡ None = sym (ap (λ (x : ℕ). find_video (record { 0 = x })) (omega arith)) ∙ e in
     rw (none, leb-suc-zero n)
 runs (suc k) o t e (suc n) =
     let both = and_yes (is_found (find_video o)) _ t in
-    let end : find_video (record { 0 = (following o).0 + 4 * k }) ≡ Missing = sym (ap (λ (x : ℕ). find_video (record { 0 = x })) (omega arith)) ∙ e in
+    let end : find_video (record { 0 = (following o).0 + 4 * k }) ≡ None = sym (ap (λ (x : ℕ). find_video (record { 0 = x })) (omega arith)) ∙ e in
     rw (true_of (is_found (find_video o)) both.0, leb-suc-suc n k) (runs k (following o) both.1 end n)
 
-none_at : {c : Cell} → Missing ≡ At c → ⊥
-none_at x = subst (λ (f : Found). T (not (is_found f))) x tt
+none_at : {c : Cell} → None ≡ Some c → ⊥
+none_at x = subst (λ (f : Option Cell). T (not (is_found f))) x tt
 
 -- the row that a lookup found
-found_row : (Q : Row VideoOffset → Type 0) (o : VideoOffset) (c : Cell) (rs : List (Row VideoOffset)) → All Q rs → find (λ n. eqb o.0 n.0) rs ≡ At c
+found_row : (Q : Row VideoOffset → Type 0) (o : VideoOffset) (c : Cell) (rs : List (Row VideoOffset)) → All Q rs → find (λ n. eqb o.0 n.0) rs ≡ Some c
     → (r : Row VideoOffset) × (o.0 ≡ r.name.0) × (r.cell ≡ c) × Q r
 unfolding find
 found_row Q o c [] a e = absurd (none_at e)
 found_row Q o c (r ∷ rs) a e = at (eqb o.0 r.name.0) refl e (found_row Q o c rs a.1)
   where
-    cell_of_lem : Found → Cell
-    cell_of_lem (At x) = x
-    cell_of_lem Missing = r.cell
+    cell_of_lem : Option Cell → Cell
+    cell_of_lem (Some x) = x
+    cell_of_lem None = r.cell
 
-    at : (b : Bool) → eqb o.0 r.name.0 ≡ b → cond b (At r.cell) (find (λ n. eqb o.0 n.0) rs) ≡ At c
-        → (find (λ n. eqb o.0 n.0) rs ≡ At c → (q : Row VideoOffset) × (o.0 ≡ q.name.0) × (q.cell ≡ c) × Q q)
+    at : (b : Bool) → eqb o.0 r.name.0 ≡ b → cond b (Some r.cell) (find (λ n. eqb o.0 n.0) rs) ≡ Some c
+        → (find (λ n. eqb o.0 n.0) rs ≡ Some c → (q : Row VideoOffset) × (o.0 ≡ q.name.0) × (q.cell ≡ c) × Q q)
         → (q : Row VideoOffset) × (o.0 ≡ q.name.0) × (q.cell ≡ c) × Q q
     at true t x more = (r, eqb-true o.0 r.name.0 t, ap cell_of_lem x, a.0)
     at false t x more = more x
 
 -- the same in the table: a row of a video section
-found_in : (Q : Row VideoOffset → Type 0) (o : VideoOffset) (c : Cell) (ss : List Section) → All (RowsVideo Q) ss → find_offset o ss ≡ At c
+found_in : (Q : Row VideoOffset → Type 0) (o : VideoOffset) (c : Cell) (ss : List Section) → All (RowsVideo Q) ss → find_offset o ss ≡ Some c
     → (r : Row VideoOffset) × (o.0 ≡ r.name.0) × (r.cell ≡ c) × Q r
 unfolding find_offset
 found_in Q o c [] a e = absurd (none_at e)
 found_in Q o c (of_3d G ∷ ss) a e = found_in Q o c ss a.1 e
 found_in Q o c (of_video rs ∷ ss) a e = by (find (λ n. eqb o.0 n.0) rs) refl e (found_in Q o c ss a.1)
   where
-    by : (f : Found) → find (λ n. eqb o.0 n.0) rs ≡ f → first_found f (find_offset o ss) ≡ At c
-        → (find_offset o ss ≡ At c → (r : Row VideoOffset) × (o.0 ≡ r.name.0) × (r.cell ≡ c) × Q r)
+    by : (f : Option Cell) → find (λ n. eqb o.0 n.0) rs ≡ f → first_found f (find_offset o ss) ≡ Some c
+        → (find_offset o ss ≡ Some c → (r : Row VideoOffset) × (o.0 ≡ r.name.0) × (r.cell ≡ c) × Q r)
         → (r : Row VideoOffset) × (o.0 ≡ r.name.0) × (r.cell ≡ c) × Q r
-    by (At d) x y more = found_row Q o c rs a.0 (x ∙ y)
-    by Missing x y more = more y
+    by (Some d) x y more = found_row Q o c rs a.0 (x ∙ y)
+    by None x y more = more y
 
 -- a test of every row of the video sections
 every_video : (Row VideoOffset → Bool) → List Section → Bool
@@ -107,7 +106,7 @@ every_video_lem f (of_video rs ∷ ss) t = let both = and_yes (every f rs) _ t i
 
 -- what a test that is true of every row tells of the row that is found
 module _ (f : Row VideoOffset → Bool) (t : T (every_video f sections)) where
-  row_of : (o : VideoOffset) (c : Cell) → find_video o ≡ At c → (r : Row VideoOffset) × (o.0 ≡ r.name.0) × (r.cell ≡ c) × T (f r)
+  row_of : (o : VideoOffset) (c : Cell) → find_video o ≡ Some c → (r : Row VideoOffset) × (o.0 ≡ r.name.0) × (r.cell ≡ c) × T (f r)
   unfolding find_video
   row_of o c e = found_in (λ r. T (f r)) o c sections (every_video_lem f sections t) e
 
@@ -130,12 +129,12 @@ tested_order : T (every_video in_order sections)
 unfolding every_video every from is_at row_from find_video find_offset find sections overlay scaler
 tested_order = tt
 
-missing_of : (f : Found) → T (not (is_found f)) → f ≡ Missing
-missing_of (At c) t = absurd t
-missing_of Missing t = refl
+missing_of : (f : Option Cell) → T (not (is_found f)) → f ≡ None
+missing_of (Some c) t = absurd t
+missing_of None t = refl
 
 -- a run from a video register on stays among the registers exactly if it is no longer than they stand in a row
-pub row_run : (o : VideoOffset) (c : Cell) → find_video o ≡ At c → (n : ℕ) → run_in o n ≡ leb n (row_from c)
+pub row_run : (o : VideoOffset) (c : Cell) → find_video o ≡ Some c → (n : ℕ) → run_in o n ≡ leb n (row_from c)
 row_run o c e n =
     let f = row_of ends tested_rows o c e in
     let both = and_yes (run_in f.0.name _) _ f.3 in
@@ -151,13 +150,13 @@ tested_names : T (every_video named sections)
 unfolding every_video every named offset_of sections overlay scaler from
 tested_names = tt
 
-pub no_video : (o : VideoOffset) → ((c : ℕ) → first_video ≤ c → c < end_video → o.0 ≡ (offset_of (cell c)).0 → ⊥) → find_video o ≡ Missing
+pub no_video : (o : VideoOffset) → ((c : ℕ) → first_video ≤ c → c < end_video → o.0 ≡ (offset_of (cell c)).0 → ⊥) → find_video o ≡ None
 unfolding named
 no_video o out = by (find_video o) refl
   where
-    by : (f : Found) → find_video o ≡ f → f ≡ Missing
-    by Missing e = refl
-    by (At c) e =
+    by : (f : Option Cell) → find_video o ≡ f → f ≡ None
+    by None e = refl
+    by (Some c) e =
         let f = row_of named tested_names o c e in
         let both = and_yes (eqb (offset_of f.0.cell).0 f.0.name.0) _ f.3 in
         let range = and_yes (leb first_video f.0.cell.0) _ both.1 in
@@ -165,16 +164,16 @@ no_video o out = by (find_video o) refl
         let high : f.0.cell.0 < end_video = ltb_yes range.1 in
         absurd (out f.0.cell.0 low high (f.1 ∙ sym (eqb_yes both.0)))
 
-module _ (o : VideoOffset) (c : Cell) (e : find_video o ≡ At c) where
+module _ (o : VideoOffset) (c : Cell) (e : find_video o ≡ Some c) where
   -- the registers of the row
-  pub row_next : (i : ℕ) → i < row_from c → find_video (record { 0 = o.0 + 4 * i }) ≡ At (cell (c.0 + i))
+  pub row_next : (i : ℕ) → i < row_from c → find_video (record { 0 = o.0 + 4 * i }) ≡ Some (cell (c.0 + i))
   row_next i h =
       let f = row_of in_order tested_order o c e in
       let low = and_yes (leb first_video f.0.cell.0) _ f.3 in
       let high = and_yes (leb (f.0.cell.0 + row_from f.0.cell) end_video) _ low.1 in
       let some = and_yes (leb 1 (row_from f.0.cell)) _ high.1 in
       let bound : i < row_from f.0.cell = rw f.2 h in
-      let at : find_video (record { 0 = f.0.name.0 + 4 * i }) ≡ At (cell (f.0.cell.0 + i)) =
+      let at : find_video (record { 0 = f.0.name.0 + 4 * i }) ≡ Some (cell (f.0.cell.0 + i)) =
       is_at_lem (f.0.cell.0 + i) _ (every_from (follows f.0) 0 (row_from f.0.cell) some.1 i (omega arith) (omega arith))
       in
       rw (sym f.1, f.2) at at

@@ -1,5 +1,6 @@
 -- The video registers stand in three rows: their offsets, and where a run leaves them.
 -- Assumes nothing.
+use Rattle.std.specs.Prelude.{Some, None}
 use mathlib.Core.Path.{◌≡◌, refl, ◌∙◌}
 use Prim.Native.Nat.{ℕ, ◌+◌, ◌*◌, ◌-◌, ◌%◌, ◌≤◌, ◌<◌}
 use native.Mathlib.Omega.{arith}
@@ -7,7 +8,6 @@ use native.Mathlib.Decide.{dec_lt}
 use borrow.Author.Tests.{le-leb, lt-leb}
 use lib.Dec.{leb}
 use Rattle.meaning.specs.declared.VideoOffset.{VideoOffset}
-use Rattle.meaning.specs.declared.Found.TheVariants.{At, Missing}
 use Rattle.meaning.specs.Registers.{cell, find_video}
 use Rattle.meaning.specs.Reader.{run_in}
 use Rattle.registers.specs.Names.{offset_of, row_from}
@@ -47,7 +47,7 @@ register second i h =
     placed i (omega arith) (omega arith) h (rw (above, high) (omega arith)) (rw (above, high))
 
 -- where a run of so many words from there on stays in the row
-pub stays : {o c n : ℕ} (r : VideoRow o c n) (i : ℕ) → i < n → (k : ℕ) → (find_video (offset_of (cell (c + i))) ≡ At (cell (c + i))) × (run_in (offset_of (cell (c + i))) k ≡ leb (i + k) n)
+pub stays : {o c n : ℕ} (r : VideoRow o c n) (i : ℕ) → i < n → (k : ℕ) → (find_video (offset_of (cell (c + i))) ≡ Some (cell (c + i))) × (run_in (offset_of (cell (c + i))) k ≡ leb (i + k) n)
 stays {o} {c} {n} r i h k =
     let own = register r i h in
     let found = named_video (c + i) (omega (arith, own.low)) own.high in (
@@ -92,9 +92,9 @@ starts first = (refl, omega arith)
 starts second = (refl, omega arith)
 
 -- between two registers there is none,
-pub between : (o : VideoOffset) → (o.0 % 4 ≡ 0 → ⊥) → find_video o ≡ Missing
+pub between : (o : VideoOffset) → (o.0 % 4 ≡ 0 → ⊥) → find_video o ≡ None
 between o n = no_video o (λ c l h e. let r = in_some_row c l h in n (omega (arith, r.offset, (starts r.row).0)))
 
 -- and outside the rows
-pub outside : (o : VideoOffset) → ((s c n : ℕ) → VideoRow s c n → (i : ℕ) → i < n → o.0 ≡ s + 4 * i → ⊥) → find_video o ≡ Missing
+pub outside : (o : VideoOffset) → ((s c n : ℕ) → VideoRow s c n → (i : ℕ) → i < n → o.0 ≡ s + 4 * i → ⊥) → find_video o ≡ None
 outside o out = no_video o (λ c l h e. let r = in_some_row c l h in out _ _ _ r.row r.number r.inside (e ∙ r.offset))

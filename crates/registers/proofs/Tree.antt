@@ -1,5 +1,7 @@
 -- The lookup by type, sub-type and sub-address as a tree of tests: the table's groups, one law for each row of them.
 -- Assumes nothing.
+use Rattle.meaning.specs.declared.Cell.{Cell}
+use Rattle.std.specs.Prelude.{Option, Some, None}
 use mathlib.Core.Path.{◌≡◌, refl, sym, ap, ◌∙◌}
 use mathlib.Core.Bool.{Bool, true, false, ◌&&◌, cond}
 use mathlib.Core.List.{List, [], ◌∷◌, ◌++◌, map, append_assoc}
@@ -12,13 +14,11 @@ use lib.ListN.{length}
 use Rattle.laws.specs.Lists.{from}
 use Rattle.laws.specs.Tests.{within}
 use Rattle.meaning.specs.declared.SubAddress.{SubAddress}
-use Rattle.meaning.specs.declared.Found.{Found}
-use Rattle.meaning.specs.declared.Found.TheVariants.{At, Missing}
 use Rattle.registers.specs.Names.{ranged}
 use Rattle.meaning.specs.Registers.{cell, Row, Group, Section, of_3d, target_group, stage, sample, stage_section, sample_section, sections_video, sections, find, find_among, find_3d}
 
 -- the cell of a sub-address among rows
-abbrev pub among : SubAddress → List (Row SubAddress) → Found
+abbrev pub among : SubAddress → List (Row SubAddress) → Option Cell
 among a rs = find (λ n. eqb a.0 n.0) rs
 
 -- the rows of a type and sub-type
@@ -32,7 +32,7 @@ module _ (f : ℕ → Group) (T K : ℕ) (is : (n : ℕ) → ((f n).type ≡ T) 
   abbrev at : ℕ → Section
   at k = of_3d (f k)
 
-  abbrev next : ℕ → List Section → Found
+  abbrev next : ℕ → List Section → Option Cell
   next i rest = cond (eqb t (f i).type && eqb u (f i).sub_type) (among a (f i).rows) (find_among t u a rest)
 
   -- the one that has the sub-type answers
@@ -69,7 +69,7 @@ samples = map sample_section (from 0 16) ++ sections_video
 
 -- past the target's group, the stages and then the samples are asked; no lookup of a 3D register finds anything among the video rows
 module _ (t u : ℕ) (a : SubAddress) where
-  abbrev rest : Found
+  abbrev rest : Option Cell
   rest = find_among t u a (map stage_section (from 0 16) ++ samples)
 
   first : find_3d t u a ≡ cond (eqb t 0x01 && eqb u 0x00) (among a target_group.rows) rest
@@ -78,21 +78,21 @@ module _ (t u : ℕ) (a : SubAddress) where
       ap (λ (ss : List Section). cond (eqb t 0x01 && eqb u 0x00) (among a target_group.rows) (find_among t u a ss))
       (append_assoc (map stage_section (from 0 16)) (map sample_section (from 0 16)) sections_video)
 
-  none_left : find_among t u a sections_video ≡ Missing
+  none_left : find_among t u a sections_video ≡ None
   unfolding find_among
   none_left = refl
 
   no_stage : ((j : ℕ) → j < 16 → t ≡ 0x02 → u ≡ j → ⊥) → rest ≡ find_among t u a samples
   no_stage no_j = miss stage 0x02 0x00 stage_is t u a samples 0 16 (λ j l h p q. no_j j h p (omega arith))
 
-  no_sample : ((j : ℕ) → j < 16 → t ≡ 0x02 → u ≡ 0x20 + j → ⊥) → find_among t u a samples ≡ Missing
+  no_sample : ((j : ℕ) → j < 16 → t ≡ 0x02 → u ≡ 0x20 + j → ⊥) → find_among t u a samples ≡ None
   no_sample no_j = miss sample 0x02 0x20 sample_is t u a sections_video 0 16 (λ j l h p q. no_j j h p q) ∙ none_left
 
   -- a type that has neither
-  neither : (t ≡ 0x02 → ⊥) → rest ≡ Missing
+  neither : (t ≡ 0x02 → ⊥) → rest ≡ None
   neither n = no_stage (λ j h p q. n p) ∙ no_sample (λ j h p q. n p)
 
-  nothing : among a [] ≡ Missing
+  nothing : among a [] ≡ None
   unfolding find
   nothing = refl
 
@@ -133,7 +133,7 @@ InOrder lo c [] = Unit {0}
 InOrder lo c (r ∷ rs) = (r.name.0 ≡ lo) × (r.cell.0 ≡ c) × InOrder (suc lo) (suc c) rs
 
 one_on : (x lo c n : ℕ) → (x ≡ lo → ⊥)
-    → cond (leb (suc lo) x && ltb x (suc lo + n)) (At (cell (suc c + (x - suc lo)))) Missing ≡ cond (leb lo x && ltb x (lo + suc n)) (At (cell (c + (x - lo)))) Missing
+    → cond (leb (suc lo) x && ltb x (suc lo + n)) (Some (cell (suc c + (x - suc lo)))) None ≡ cond (leb lo x && ltb x (lo + suc n)) (Some (cell (c + (x - lo)))) None
 one_on x lo c n e =
     let m : suc lo + n ≡ lo + suc n = omega arith in
     elim (dec_lt x lo) [
@@ -143,7 +143,7 @@ one_on x lo c n e =
 
 -- the range of their names tells the cell
 pub in_order : (a : SubAddress) (lo c : ℕ) (rs : List (Row SubAddress)) → InOrder lo c rs
-    → among a rs ≡ cond (leb lo a.0 && ltb a.0 (lo + length rs)) (At (cell (c + (a.0 - lo)))) Missing
+    → among a rs ≡ cond (leb lo a.0 && ltb a.0 (lo + length rs)) (Some (cell (c + (a.0 - lo)))) None
 unfolding find
 in_order a lo c [] o =
     elim (dec_lt a.0 lo) [
@@ -153,15 +153,15 @@ in_order a lo c [] o =
 in_order a lo c (r ∷ rs) o =
     elim (ℕ_discrete a.0 r.name.0) [
       | yes e ↦ rw (eq-eqb a.0 r.name.0 e, le-leb lo a.0 (omega (arith, o.0)), lt-ltb a.0 (lo + suc (length rs)) (omega (arith, o.0)))
-          (ap (λ (n : ℕ). At (cell n)) (omega (arith, o.0, o.1)))
+          (ap (λ (n : ℕ). Some (cell n)) (omega (arith, o.0, o.1)))
       | no e ↦ rw (ne_eqb a.0 r.name.0 e) (in_order a (suc lo) (suc c) rs o.2 ∙ one_on a.0 lo c (length rs) (λ x. e (x ∙ sym o.0)))
     ]
 
 -- the lookup as a tree of tests
-unfoldable pub tree_3d : ℕ → ℕ → ℕ → Found
+unfoldable pub tree_3d : ℕ → ℕ → ℕ → Option Cell
 tree_3d t u a =
-    cond (eqb t 0x01) (cond (eqb u 0x00) (cond (eqb a 0x3F) (At (cell 0)) (ranged 0x50 3 1 a)) Missing)
-    (cond (eqb t 0x02) (cond (leb u 0x0F) (ranged 0x50 2 (4 + 2 * u) a) (cond (within 0x20 0x2F u) (ranged 0x30 3 (36 + 3 * (u - 0x20)) a) Missing)) Missing)
+    cond (eqb t 0x01) (cond (eqb u 0x00) (cond (eqb a 0x3F) (Some (cell 0)) (ranged 0x50 3 1 a)) None)
+    (cond (eqb t 0x02) (cond (leb u 0x0F) (ranged 0x50 2 (4 + 2 * u) a) (cond (within 0x20 0x2F u) (ranged 0x30 3 (36 + 3 * (u - 0x20)) a) None)) None)
 
 -- a lookup goes into the branches of a test
 among_cond : (a : SubAddress) (b : Bool) (rs ss : List (Row SubAddress)) → among a (cond b rs ss) ≡ cond b (among a rs) (among a ss)
@@ -173,9 +173,9 @@ abbrev others : List (Row SubAddress) → List (Row SubAddress)
 others [] = []
 others (r ∷ rs) = rs
 
-target_rows : (a : SubAddress) → among a target_group.rows ≡ cond (eqb a.0 0x3F) (At (cell 0)) (ranged 0x50 3 1 a.0)
+target_rows : (a : SubAddress) → among a target_group.rows ≡ cond (eqb a.0 0x3F) (Some (cell 0)) (ranged 0x50 3 1 a.0)
 unfolding target_group find
-target_rows a = ap (cond (eqb a.0 0x3F) (At (cell 0))) (in_order a 0x50 1 (others target_group.rows) (refl, refl, (refl, refl, (refl, refl, tt))))
+target_rows a = ap (cond (eqb a.0 0x3F) (Some (cell 0))) (in_order a 0x50 1 (others target_group.rows) (refl, refl, (refl, refl, (refl, refl, tt))))
 
 stage_rows : (n : ℕ) (a : SubAddress) → among a (stage n).rows ≡ ranged 0x50 2 (4 + 2 * n) a.0
 unfolding stage

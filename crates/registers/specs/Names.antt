@@ -1,9 +1,7 @@
 -- The names of the cells, and the runs of video registers: the table read from the cell's side. proofs/Names ties them to the table.
 -- Assumes nothing.
-use Rattle.std.specs.Prelude.{◌&&◌, cond, ℕ, ◌+◌, ◌*◌, ◌-◌, ◌/◌, ◌%◌, leb, ltb, eqb}
+use Rattle.std.specs.Prelude.{◌&&◌, cond, ℕ, ◌+◌, ◌*◌, ◌-◌, ◌/◌, ◌%◌, leb, ltb, eqb, Option, Some, None}
 use Rattle.meaning.specs.declared.Cell.{Cell}
-use Rattle.meaning.specs.declared.Found.{Found}
-use Rattle.meaning.specs.declared.Found.TheVariants.{At, Missing}
 use Rattle.meaning.specs.Registers.{cell}
 use Rattle.meaning.specs.declared.SubAddress.{SubAddress}
 use Rattle.meaning.specs.declared.VideoOffset.{VideoOffset}
@@ -39,5 +37,5 @@ unfoldable pub row_from : Cell → ℕ
 row_from c = cond (leb c.0 86) (87 - c.0) (cond (leb c.0 93) (94 - c.0) (101 - c.0))
 
 -- a cell, where a name lies among the n that follow one another from lo on, the first of them the name of cell c
-abbrev pub ranged : ℕ → ℕ → ℕ → ℕ → Found
-ranged lo n c a = cond (leb lo a && ltb a (lo + n)) (At (cell (c + (a - lo)))) Missing
+abbrev pub ranged : ℕ → ℕ → ℕ → ℕ → Option Cell
+ranged lo n c a = cond (leb lo a && ltb a (lo + n)) (Some (cell (c + (a - lo)))) None

@@ -10,9 +10,8 @@ use borrow.Author.Tests.{ne_eqb}
 use lib.Dec.{eqb}
 use lib.ListN.{length, length-append, length-drop}
 use Rattle.laws.specs.Lists.{every, over}
-use Rattle.meaning.specs.declared.Answer.{Answer}
 use Rattle.meaning.specs.Words.{words_of, bytes_of}
-use Rattle.meaning.specs.Answers.{success, bad_buffer, provided, number_of}
+use Rattle.meaning.specs.Answers.{Answer, success, bad_buffer, provided, number_of}
 use Rattle.meaning.specs.Writer.{most_written, written, write_answer}
 use Rattle.meaning.specs.Exported.{buffer_fine, word_buffer_fine, exported_write, exported_write_leaves}
 use Rattle.meaning.proofs.Bytes.{length_bytes, number_tells}

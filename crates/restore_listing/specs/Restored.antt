@@ -2,10 +2,9 @@
 -- words of the batch if there is one".
 -- Assumes nothing.
 use Rattle.std.specs.Prelude.{cond, List, [], ◌∷◌, ◌++◌, ℕ, ◌+◌, ◌*◌, eqb, replicate}
-use Rattle.meaning.specs.declared.Answer.{Answer}
 use Rattle.meaning.specs.Words.{bits, words_of, bytes_of}
 use Rattle.meaning.specs.State.{empty}
-use Rattle.meaning.specs.Answers.{success, number_of}
+use Rattle.meaning.specs.Answers.{Answer, success, number_of}
 use Rattle.meaning.specs.Writer.{most_written, written}
 use Rattle.meaning.specs.Exported.{exported_write, exported_read_listing, exported_read_listing_leaves}
 use Rattle.meaning.specs.Cases.{grant}

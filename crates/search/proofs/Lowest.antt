@@ -1,5 +1,7 @@
 -- The search for the lowest bad cell, part by part.
 -- Assumes nothing.
+use Rattle.meaning.specs.declared.Cell.{Cell}
+use Rattle.std.specs.Prelude.{Option, Some}
 use mathlib.Core.Path.{◌≡◌, refl, sym, ap, ◌∙◌}
 use mathlib.Core.Bool.{Bool, true, false, cond}
 use mathlib.Core.List.{List}
@@ -9,8 +11,6 @@ use native.Mathlib.Nat.{zero-add, suc-add, add-suc, add-zero, mul-zero, mul-suc}
 use lib.Dec.{T, ltb, leb}
 use mir.Facts.{ltb_yes, leb_yes}
 use Rattle.laws.proofs.Arms.{told_true, told_false}
-use Rattle.meaning.specs.declared.Found.{Found}
-use Rattle.meaning.specs.declared.Found.TheVariants.{At}
 use Rattle.meaning.specs.Registers.{cells, cell}
 use Rattle.meaning.specs.Grants.{Terms}
 use Rattle.meaning.specs.Writer.{writable, lowest_bad}
@@ -26,7 +26,7 @@ module _ (g : Terms) (st : List ℕ) where
   unfolding lowest lowest_bad
   first_cell i n = rw (add-suc i n, ← suc-add i n) (pick (writable g st (cell i)) (lowest_bad g st (suc i) n))
     where
-      pick : (b : Bool) (more : Found) → or_end (cond b more (At (cell i))) (suc i + n) ≡ cond b (or_end more (suc i + n)) i
+      pick : (b : Bool) (more : Option Cell) → or_end (cond b more (Some (cell i))) (suc i + n) ≡ cond b (or_end more (suc i + n)) i
       pick true more = refl
       pick false more = refl
 

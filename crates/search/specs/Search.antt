@@ -1,15 +1,14 @@
 -- What the searches for a bad cell ask and tell.
 -- Assumes nothing.
-use Rattle.std.specs.Prelude.{◌≡◌, List, ℕ, ◌+◌, ◌*◌, ◌<◌}
-use Rattle.meaning.specs.declared.Found.{Found}
-use Rattle.meaning.specs.declared.Found.TheVariants.{At, Missing}
+use Rattle.meaning.specs.declared.Cell.{Cell}
+use Rattle.std.specs.Prelude.{◌≡◌, List, ℕ, ◌+◌, ◌*◌, ◌<◌, Option, Some, None}
 use Rattle.meaning.specs.Grants.{Terms}
 use Rattle.meaning.specs.Writer.{lowest_bad}
 
 -- the number of the cell that was found; where there is none, the one that is told in its place
-abbrev pub or_end : Found → ℕ → ℕ
-or_end (At c) end = c.0
-or_end Missing end = end
+abbrev pub or_end : Option Cell → ℕ → ℕ
+or_end (Some c) end = c.0
+or_end None end = end
 
 -- the lowest of n cells from number i on that may not be written, or the cell after them
 unfoldable pub lowest : Terms → List ℕ → ℕ → ℕ → ℕ

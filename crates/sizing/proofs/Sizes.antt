@@ -1,5 +1,7 @@
 -- The size's reasons are its rows; the writer's answer is made of the size's and of the room; and so of the calls of the driver.
 -- Assumes nothing.
+use Rattle.meaning.specs.declared.Cell.{Cell}
+use Rattle.std.specs.Prelude.{Option, Some, None}
 use mathlib.Core.Path.{◌≡◌, refl, sym, ap, ◌∙◌}
 use mathlib.Core.Logic.{◌↔◌, ◌≢◌}
 use mathlib.Core.Bool.{Bool, true, false, ◌&&◌, cond}
@@ -10,15 +12,12 @@ use borrow.Author.Tests.{le-leb, lt-leb, leb-true, leb-false, eqb-true, eqb-fals
 use lib.Dec.{T, leb, eqb}
 use lib.ListN.{length}
 use Rattle.laws.specs.Lists.{every}
-use Rattle.meaning.specs.declared.Found.{Found}
-use Rattle.meaning.specs.declared.Found.TheVariants.{At, Missing}
-use Rattle.meaning.specs.declared.Answer.{Answer}
 use Rattle.meaning.specs.Words.{words_of}
 use Rattle.meaning.specs.Registers.{cells}
 use Rattle.meaning.specs.Grants.{terms_of, grants_fine}
 use Rattle.meaning.specs.State.{well_formed}
 use Rattle.meaning.specs.Pair.{pair_fine}
-use Rattle.meaning.specs.Answers.{bad_state, bad_grants, bad_buffer, no_room, success, answer, provided}
+use Rattle.meaning.specs.Answers.{Answer, bad_state, bad_grants, bad_buffer, no_room, success, answer, provided}
 use Rattle.meaning.specs.Writer.{size_of, most_written, lowest_bad, with_pair, except_at, size_answer, write_answer, in_room}
 use Rattle.meaning.specs.Reasons.{SizeGives, WriterGives}
 use Rattle.meaning.specs.Exported.{word_buffer_fine, exported_size, exported_write}
@@ -124,13 +123,13 @@ module _ (st grants : List ℕ) (room : ℕ) where
   unfolding size_answer write_answer
   size_then_write = by (well_formed st) (grants_fine grants) (with_pair (pair_fine (terms_of grants) st) (lowest_bad (terms_of grants) st 0 cells))
     where
-      by : (b c : Bool) (f : Found)
+      by : (b c : Bool) (f : Option Cell)
           → provided b bad_state (provided c bad_grants (except_at f (provided (leb (size_of st) room) no_room (answer success (size_of st)))))
           ≡ in_room room (provided b bad_state (provided c bad_grants (except_at f (answer success (size_of st)))))
       by false c f = refl
       by true false f = refl
-      by true true (At c) = refl
-      by true true Missing = refl
+      by true true (Some c) = refl
+      by true true None = refl
 
   -- D8 "else it gives 11 exactly if the output has fewer words than the size tells"
   pub eleven_exactly : ((write_answer st grants room).reason ≡ no_room) ↔ (((size_answer st grants).reason ≡ 0) × (room < (size_answer st grants).place))

@@ -1,9 +1,8 @@
 -- K42 to K51: states, what the size answers, and what the writer then answers in room around it.
 -- Assumes nothing.
 use Rattle.std.specs.Prelude.{◌≡◌, List, [], ◌∷◌, ℕ, suc, set}
-use Rattle.meaning.specs.declared.Answer.{Answer}
 use Rattle.meaning.specs.State.{empty}
-use Rattle.meaning.specs.Answers.{answer}
+use Rattle.meaning.specs.Answers.{Answer, answer}
 use Rattle.meaning.specs.Writer.{most_written, size_answer, write_answer}
 use Rattle.meaning.specs.Cases.{with, holding, grant, addressed}
 

@@ -1,5 +1,6 @@
 -- The size's answer, by what its tests came to; and what success tells of a state.
 -- Assumes nothing.
+use Rattle.std.specs.Prelude.{Option, Some, None}
 use mathlib.Core.Path.{◌≡◌, refl, sym, ap, ◌∙◌}
 use mathlib.Core.Bool.{Bool, true, false, cond}
 use mathlib.Core.List.{List}
@@ -11,15 +12,12 @@ use mir.Facts.{eqb_yes}
 use Rattle.laws.specs.Lists.{every, from}
 use Rattle.laws.proofs.Lists.{every_from}
 use Rattle.meaning.specs.declared.Cell.{Cell}
-use Rattle.meaning.specs.declared.Found.{Found}
-use Rattle.meaning.specs.declared.Found.TheVariants.{At, Missing}
-use Rattle.meaning.specs.declared.Answer.{Answer}
 use Rattle.meaning.specs.Registers.{cells, first_video, cell, target_group, stage, sample, overlay, scaler, sections, register_among, register_in, register_at}
 use Rattle.meaning.specs.declared.Memory.TheVariants.{Either, Only}
 use Rattle.meaning.specs.Grants.{Terms, grants_of, grants_fine, granted, terms_of}
 use Rattle.meaning.specs.State.{marked, well_formed}
 use Rattle.meaning.specs.Pair.{target_cell, pair_fine}
-use Rattle.meaning.specs.Answers.{bad_state, bad_grants, not_writable, success, answer}
+use Rattle.meaning.specs.Answers.{Answer, bad_state, bad_grants, not_writable, success, answer}
 use Rattle.meaning.specs.Reasons.{CellFine}
 use Rattle.meaning.specs.Writer.{written, size_of, need_for, lowest_bad, with_pair, except_at, size_answer}
 use Rattle.meaning.proofs.States.{Sound}
@@ -37,27 +35,27 @@ use Rattle.writer.specs.Lowest.{lowest_with}
 -- ---- what the number tells of the search among all cells and of the pair
 
 -- what a cell's number tells of a cell that was found, or of none
-abbrev Tells : Found → ℕ → Type 0
-Tells f low = (low < cells → (a : Answer) → answer not_writable low ≡ except_at f a) × (cells ≤ low → f ≡ Missing)
+abbrev Tells : Option Cell → ℕ → Type 0
+Tells f low = (low < cells → (a : Answer) → answer not_writable low ≡ except_at f a) × (cells ≤ low → f ≡ None)
 
-at_cell : (c : Cell) {low : ℕ} → c.0 < cells → low ≡ c.0 → Tells (At c) low
+at_cell : (c : Cell) {low : ℕ} → c.0 < cells → low ≡ c.0 → Tells (Some c) low
 at_cell c l e = (λ h a. ap (answer not_writable) e, λ h. absurd (omega arith))
 
 module _ (g : Terms) (st : List ℕ) where
   -- cell 1 goes before any cell but cell 0
-  with_pair_lem : (fine : Bool) (f : Found) → Lowest g st 0 cells f → {low : ℕ} → low ≡ lowest_with fine (or_end f cells) → Tells (with_pair fine f) low
-  with_pair_lem true (At c) is e = let same : lowest_with true c.0 ≡ c.0 = as_found c.0 (eqb c.0 0) refl in at_cell c is.to (e ∙ same)
+  with_pair_lem : (fine : Bool) (f : Option Cell) → Lowest g st 0 cells f → {low : ℕ} → low ≡ lowest_with fine (or_end f cells) → Tells (with_pair fine f) low
+  with_pair_lem true (Some c) is e = let same : lowest_with true c.0 ≡ c.0 = as_found c.0 (eqb c.0 0) refl in at_cell c is.to (e ∙ same)
     where
       as_found : (n : ℕ) (b : Bool) → eqb n 0 ≡ b → cond b 0 n ≡ n
       as_found n true z = sym (eqb-true n 0 z)
       as_found n false z = refl
-  with_pair_lem true Missing is e = (λ h. absurd (omega arith), λ h. refl)
-  with_pair_lem false (At c) is e = by (eqb c.0 0) refl e
+  with_pair_lem true None is e = (λ h. absurd (omega arith), λ h. refl)
+  with_pair_lem false (Some c) is e = by (eqb c.0 0) refl e
     where
-      by : (b : Bool) → eqb c.0 0 ≡ b → {low : ℕ} → low ≡ cond b 0 1 → Tells (cond b (At c) (At target_cell)) low
+      by : (b : Bool) → eqb c.0 0 ≡ b → {low : ℕ} → low ≡ cond b 0 1 → Tells (cond b (Some c) (Some target_cell)) low
       by true z x = at_cell c is.to (x ∙ sym (eqb-true c.0 0 z))
       by false z x = at_cell target_cell (omega arith) x
-  with_pair_lem false Missing is e = at_cell target_cell (omega arith) e
+  with_pair_lem false None is e = at_cell target_cell (omega arith) e
 
   told : {low : ℕ} → low ≡ lowest_with (pair_fine g st) (lowest g st 0 cells) → Tells (with_pair (pair_fine g st) (lowest_bad g st 0 cells)) low
   unfolding lowest
@@ -71,9 +69,9 @@ unfolding lowest
 passed ws st starts lasts numbers bounds names near {found} e its l =
     rw its (known_held ws starts lasts numbers bounds names near st (cell_1 (lowest_bad (terms_of ws) st 0 cells) (lowest_told (terms_of ws) st 0 cells) (rw e at l)))
   where
-    cell_1 : (f : Found) → Lowest (terms_of ws) st 0 cells f → 1 < or_end f cells → CellFine (terms_of ws) st target_cell
-    cell_1 (At c) is l = is.before 1 (omega arith) l
-    cell_1 Missing is l = is 1 (omega arith) (omega arith)
+    cell_1 : (f : Option Cell) → Lowest (terms_of ws) st 0 cells f → 1 < or_end f cells → CellFine (terms_of ws) st target_cell
+    cell_1 (Some c) is l = is.before 1 (omega arith) l
+    cell_1 None is l = is 1 (omega arith) (omega arith)
 
 -- what is judged of the pair under kept grants is what the definitions say of it
 pub paired : (ws st : List ℕ) → T (grants_fine ws) → (starts lasts numbers bounds : List ℕ) → Names (terms_of ws) starts lasts numbers bounds

@@ -7,14 +7,13 @@ use native.Mathlib.Omega.{arith}
 use lib.ListN.{length, get_or}
 use mir.Facts.{eqb_yes}
 use Rattle.laws.proofs.Tests.{holds_of}
-use Rattle.meaning.specs.declared.Answer.{Answer}
 use Rattle.meaning.specs.Words.{words_of}
 use Rattle.meaning.specs.Registers.{cells}
 use Rattle.meaning.specs.declared.Memory.TheVariants.{Either, Only}
 use Rattle.meaning.specs.Grants.{grants_of, grants_fine, granted, terms_of}
 use Rattle.meaning.specs.State.{state_words, well_formed}
 use Rattle.meaning.specs.Pair.{pair_fine}
-use Rattle.meaning.specs.Answers.{answer}
+use Rattle.meaning.specs.Answers.{Answer, answer}
 use Rattle.grants.specs.Kept.{Keeps, Names, Bounded}
 use Rattle.search.specs.Search.{lowest}
 use Rattle.meaning.proofs.States.{formed_iff}
