@@ -5,6 +5,8 @@ ghost use Rattle.std.specs.Prelude.{◌≡◌, ◌≤◌, ◌<◌};
 ghost use Rattle.meaning.specs.Grants.{most_grants};
 ghost use Rattle.grants.specs.Kept as kept;
 
+mod asked;
+
 use meaning::{MOST_GRANTS, Memory};
 
 // The first address of each kept grant, or the last of each.
@@ -52,27 +54,6 @@ pub struct RoleGrants<'a> {
     ghost inside: { part.to ≤ most_grants },
 }
 
-impl<'a> Kept<'a> {
-    // Those of a role.
-    pub fn part_of(self, role: usize) -> RoleGrants<'a>
-        requires role { role < 4 }
-        ensures starts { result.starts ≡ self.starts }
-        ensures lasts { result.lasts ≡ self.lasts }
-        ensures numbers { result.numbers ≡ self.numbers }
-        ensures part { result.part ≡ kept.part_of self.bounds.now role }
-    {
-        RoleGrants {
-            starts: self.starts,
-            lasts: self.lasts,
-            numbers: self.numbers,
-            part: Part {
-                from: self.bounds[role],
-                to: self.bounds[4 + role],
-            },
-        }
-    }
-}
-
 // A kept grant is in the memory, by the byte that bears its number.
 fn lies(memory: Memory, number: u8) -> bool
     ensures lies { result ≡ kept.lies_as memory number }
@@ -88,41 +69,4 @@ fn numbered(number: u8) -> usize
     ensures grant { result ≡ kept.number_in number }
 {
     (number % MEMORY_STEP) as usize
-}
-
-impl RoleGrants<'_> {
-    // A kept grant covers the address, in the memory. Which memory it is in is asked last, so that a miss looks at two words alone.
-    fn covers(self, i: usize, memory: Memory, address: u32) -> bool
-        requires inside { i < most_grants }
-        ensures covers { result ≡ kept.covers_at self.starts.now self.lasts.now self.numbers.now i memory address }
-    {
-        if address < self.starts[i] {
-            return false;
-        }
-        if self.lasts[i] < address {
-            return false;
-        }
-        lies(memory, self.numbers[i])
-    }
-
-    // THE TEST: the grant that admits the address, in whichever memory or in one. The first that covers it is the lowest-numbered, since a
-    // part keeps the order of the list. The last is asked behind the loop, so that nothing is made ready for a miss inside it; a number is
-    // looked at where one covers.
-    pub fn which(self, memory: Memory, address: u32) -> Option<usize>
-        ensures which { result ≡ kept.which_in self.starts.now self.lasts.now self.numbers.now self.part memory address }
-    {
-        if self.part.to <= self.part.from {
-            return None;
-        }
-        let last = self.part.to - 1;
-        for i in self.part.from..last {
-            if self.covers(i, memory, address) {
-                return Some(numbered(self.numbers[i]));
-            }
-        }
-        if self.covers(last, memory, address) {
-            return Some(numbered(self.numbers[last]));
-        }
-        None
-    }
 }
