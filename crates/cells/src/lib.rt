@@ -4,15 +4,16 @@
 ghost use Rattle.std.specs.Prelude.{◌≡◌, ℕ, ◌≤◌, ◌<◌, ◌^◌, T, ltb, length};
 ghost use Rattle.meaning.specs.Words.{words_of};
 ghost use Rattle.meaning.specs.Registers.{cells, cell, register_at};
-ghost use Rattle.meaning.specs.Grants.{Terms, most_grants};
+ghost use Rattle.meaning.specs.Grants.{Terms};
 ghost use Rattle.meaning.specs.State.{state_words, well_formed, value_at, mark_at};
+ghost use Rattle.meaning.specs.Answers.{reason_in};
 ghost use Rattle.meaning.specs.Reader.{value_reason};
 ghost use Rattle.meaning.specs.Writer.{writable};
-ghost use Rattle.grants.specs.Kept.{Granting};
+ghost use Rattle.grants.specs.Held.{IsRole};
 ghost use Rattle.cells.specs.Rows.{RowOf, IsRow, takes_zero, width_of, vacant_in};
 
-use grants::{Numbers, Part, Spans};
-use meaning::Cell;
+use grants::RoleGrants;
+use meaning::{Cell, Reason};
 
 // The rows of the register table. A stage's two registers are alike, and so are those of 2208 and 220C and the later two addresses of a
 // scaler.
@@ -36,23 +37,18 @@ pub enum Row {
     SourceStride,
 }
 
-// 7 to 9 of a value, by the row of its register. `starts`, `lasts` and `numbers` are the grants as they are kept, and `part` those of the role of the
-// row's addresses, if it has any.
+// 7 to 9 of a value, by the row of its register. `part` are the grants of the role of the row's addresses, if it has any.
 fn row_reason(
     row: Row,
     value: u32,
-    starts: &Spans,
-    lasts: &Spans,
-    numbers: &Numbers,
-    part: Part,
-) -> u32
+    part: &RoleGrants<'_>,
+) -> Result<(), Reason>
     requires narrow { value < 2 ^ width_of row }
-    requires inside { part.to ≤ most_grants }
-    ensures reason { (g : Terms) (c role : ℕ) → RowOf row c role → ((role ≡ 0 → ⊥) → Granting g role starts.now lasts.now part) → result ≡ value_reason g (register_at (cell c)) value }
+    ensures reason { (g : Terms) (c role : ℕ) → RowOf row c role → ((role ≡ 0 → ⊥) → IsRole g role part.now) → reason_in result ≡ value_reason g (register_at (cell c)) value }
 {
     match row {
         Row::AlphaConstants => rows_3d::alpha_constants_reason(value),
-        Row::TargetAddress => rows_3d::target_address_reason(value, starts, lasts, numbers, part),
+        Row::TargetAddress => rows_3d::target_address_reason(value, part),
         Row::Location => rows_3d::location_reason(value),
         Row::Format => rows_3d::format_reason(value),
         Row::Stage => rows_3d::stage_reason(value),
@@ -63,8 +59,8 @@ fn row_reason(
         Row::AlphaSelect => rows_video::alpha_select_reason(value),
         Row::Deinterlace => rows_video::deinterlace_reason(value),
         Row::SubPicture => rows_video::sub_picture_reason(value),
-        Row::FirstAddress => rows_video::first_address_reason(value, starts, lasts, numbers, part),
-        Row::Address => rows_video::address_reason(value, starts, lasts, numbers, part),
+        Row::FirstAddress => rows_video::first_address_reason(value, part),
+        Row::Address => rows_video::address_reason(value, part),
         Row::DestinationStride => rows_video::destination_stride_reason(value),
         Row::SourceStride => rows_video::source_stride_reason(value),
     }
@@ -121,15 +117,11 @@ pub fn fine(
     state: &[u8],
     cell: Cell,
     row: Row,
-    starts: &Spans,
-    lasts: &Spans,
-    numbers: &Numbers,
-    part: Part,
+    part: &RoleGrants<'_>,
 ) -> bool
     requires formed { T (well_formed (words_of state.now)) }
     requires row { IsRow row cell.0 }
-    requires inside { part.to ≤ most_grants }
-    ensures fine { (g : Terms) (role : ℕ) → RowOf row cell.0 role → ((role ≡ 0 → ⊥) → Granting g role starts.now lasts.now part) → result ≡ writable g (words_of state.now) cell }
+    ensures fine { (g : Terms) (role : ℕ) → RowOf row cell.0 role → ((role ≡ 0 → ⊥) → IsRole g role part.now) → result ≡ writable g (words_of state.now) cell }
 {
     let value = states::value(state, cell);
     if vacant(state, cell, row, value) {
@@ -138,5 +130,5 @@ pub fn fine(
     if !narrow(row, value) {
         return false;
     }
-    row_reason(row, value, starts, lasts, numbers, part) == 0
+    row_reason(row, value, part).is_ok()
 }

@@ -2,9 +2,9 @@
 #![tactic(auto)]
 
 ghost use Rattle.std.specs.Prelude.{◌≡◌, ◌≤◌, ◌<◌, ◌^◌};
-ghost use Rattle.headers.specs.Headers.{run_reason, scaler_at, overlay_run, scaler_run, header_of, group_of};
+ghost use Rattle.headers.specs.Headers.{run_index, scaler_at, overlay_run, scaler_run, header_of, group_of};
 
-use meaning::{BAD_COUNT, BAD_OFFSET, Cell, SUCCESS, VideoOffset};
+use meaning::{Cell, Reason, VideoOffset};
 
 // A run of a scaler's registers: the cell of its first register, the role of its addresses, and the number of the run's first register.
 #[derive(Clone, Copy)]
@@ -14,23 +14,20 @@ pub struct ScalerRun {
     pub index: usize,
 }
 
-// What stands behind a header: nothing, since it is refused; a setting and parameters; a run from register `index` of 2208 to 2210 on; a
-// run of a scaler's registers.
+// What stands behind a header: a setting and parameters; a run from register `index` of 2208 to 2210 on; a run of a scaler's registers.
 #[derive(Clone, Copy)]
 pub enum Header {
-    Refused(u32),
     Setting,
     Overlay(usize),
     Scaler(ScalerRun),
 }
 
-// The registers of a type and sub-type: 01.00, a stage or a sample, each with the cell of its first register, or none.
+// The registers of a type and sub-type: 01.00, a stage or a sample, each with the cell of its first register.
 #[derive(Clone, Copy)]
 pub enum Group {
     Target,
     Stage(Cell),
     Sample(Cell),
-    Nothing,
 }
 
 // An offset among the registers of a scaler: the cell of the first, the role of its addresses, and the bytes between.
@@ -41,92 +38,79 @@ pub struct ScalerOffset {
     pub distance: u32,
 }
 
-// 3 and 4 of a run of n words from an offset on that stands so many bytes behind the first of a row of video registers: 3 between two
-// registers, 4 where the run is empty or leaves the row.
-fn run_reason(distance: u32, n: usize, row: usize) -> u32
+// The number of the first register of a run of n words, from an offset on that stands so many bytes behind the first of a row of video
+// registers: 3 between two registers, 4 where the run is empty or leaves the row.
+fn run_index(distance: u32, n: usize, row: usize) -> Result<usize, Reason>
     requires few { n < 2 ^ 16 }
-    ensures reason { result ≡ run_reason distance n row }
+    ensures index { result ≡ run_index distance n row }
 {
     if distance % 4 != 0 {
-        return BAD_OFFSET;
+        return Err(Reason::BadOffset);
     }
     if n == 0 {
-        return BAD_COUNT;
+        return Err(Reason::BadCount);
     }
     let index = (distance / 4) as usize;
     if row < index + n {
-        return BAD_COUNT;
+        return Err(Reason::BadCount);
     }
-    SUCCESS
+    Ok(index)
 }
 
 // A run for 2208 to 2210.
-fn overlay_run(offset: VideoOffset, n: usize) -> Header
+fn overlay_run(offset: VideoOffset, n: usize) -> Result<Header, Reason>
     requires low { 0x2208 ≤ offset.0 }
     requires few { n < 2 ^ 16 }
     ensures opened { result ≡ overlay_run offset n }
 {
-    let distance = offset.0 - 0x2208;
-    let reason = run_reason(distance, n, 3);
-    if reason != 0 {
-        return Header::Refused(reason);
-    }
-    Header::Overlay((distance / 4) as usize)
+    let index = run_index(offset.0 - 0x2208, n, 3)?;
+    Ok(Header::Overlay(index))
 }
 
-// An offset of neither scaler is told as one between two registers.
-fn scaler_at(offset: VideoOffset) -> ScalerOffset
+// The scaler that an offset is among the registers of.
+fn scaler_at(offset: VideoOffset) -> Option<ScalerOffset>
     ensures told { result ≡ scaler_at offset }
 {
     let o = offset.0;
     match o {
-        0x23e4..=0x23fc => ScalerOffset {
+        0x23e4..=0x23fc => Some(ScalerOffset {
             base: Cell(87),
             role: 2,
             distance: o - 0x23e4,
-        },
-        0x33e4..=0x33fc => ScalerOffset {
+        }),
+        0x33e4..=0x33fc => Some(ScalerOffset {
             base: Cell(94),
             role: 3,
             distance: o - 0x33e4,
-        },
-        _ => ScalerOffset {
-            base: Cell(87),
-            role: 2,
-            distance: 1,
-        },
+        }),
+        _ => None,
     }
 }
 
 // A run for a scaler, or for no register.
-fn scaler_run(offset: VideoOffset, n: usize) -> Header
+fn scaler_run(offset: VideoOffset, n: usize) -> Result<Header, Reason>
     requires few { n < 2 ^ 16 }
     ensures opened { result ≡ scaler_run offset n }
 {
-    let scaler = scaler_at(offset);
-    let base = scaler.base;
-    let distance = scaler.distance;
-    let reason = run_reason(distance, n, 7);
-    if reason != 0 {
-        return Header::Refused(reason);
-    }
-    Header::Scaler(ScalerRun {
-        base,
+    let scaler = scaler_at(offset).ok_or(Reason::BadOffset)?;
+    let index = run_index(scaler.distance, n, 7)?;
+    Ok(Header::Scaler(ScalerRun {
+        base: scaler.base,
         role: scaler.role,
-        index: (distance / 4) as usize,
-    })
+        index,
+    }))
 }
 
 // What a header opens.
-pub fn header_of(header: u32) -> Header
+pub fn header_of(header: u32) -> Result<Header, Reason>
     ensures opened { result ≡ header_of header }
 {
     let offset = fields::offset(header);
     let n = fields::count(header) as usize;
     match offset {
         0x043c => match n {
-            2..=113 => Header::Setting,
-            _ => Header::Refused(BAD_COUNT),
+            2..=113 => Ok(Header::Setting),
+            _ => Err(Reason::BadCount),
         },
         0x2208..=0x2210 => overlay_run(VideoOffset(offset), n),
         _ => scaler_run(VideoOffset(offset), n),
@@ -134,19 +118,19 @@ pub fn header_of(header: u32) -> Header
 }
 
 // The group that a setting names. 02 with a stage or a sample, 01 with 00: what is left of a setting is 0.
-pub fn group_of(setting: u32) -> Group
+pub fn group_of(setting: u32) -> Option<Group>
     ensures group { result ≡ group_of setting }
 {
     if setting % 0x1000000 == 0x20000 {
         let sub = fields::sub_type(setting) as usize;
         return match sub {
-            0x00..=0x0f => Group::Stage(Cell(4 + 2 * sub)),
-            0x20..=0x2f => Group::Sample(Cell(3 * sub - 60)),
-            _ => Group::Nothing,
+            0x00..=0x0f => Some(Group::Stage(Cell(4 + 2 * sub))),
+            0x20..=0x2f => Some(Group::Sample(Cell(3 * sub - 60))),
+            _ => None,
         };
     }
     if setting == 0x10000 {
-        return Group::Target;
+        return Some(Group::Target);
     }
-    Group::Nothing
+    None
 }

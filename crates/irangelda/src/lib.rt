@@ -67,7 +67,10 @@ fn number(answer: Answer) -> u64
     requires place { answer.place ≤ exported.most_bytes }
     ensures number { result ≡ number_of answer }
 {
-    answer.place as u64 * 256 + answer.reason as u64
+    match answer {
+        Ok(place) => place as u64 * 256,
+        Err(refusal) => refusal.place as u64 * 256 + refusal.reason as u64,
+    }
 }
 
 // Reads a batch: 13, 1, 2, then what the first bad word gives, or 10; else 0 and the batch's length in words. The state is changed only if

@@ -4,85 +4,85 @@
 
 ghost use Rattle.std.specs.Prelude.{◌≡◌, ℕ, ◌+◌, ◌≤◌, ◌<◌, ◌^◌};
 ghost use Rattle.meaning.specs.Registers.{first_video, cell, register_at};
-ghost use Rattle.meaning.specs.Grants.{Terms, most_grants};
+ghost use Rattle.meaning.specs.Grants.{Terms};
+ghost use Rattle.meaning.specs.Answers.{reason_in};
 ghost use Rattle.meaning.specs.Reader.{value_reason};
-ghost use Rattle.grants.specs.Kept.{Granting};
+ghost use Rattle.grants.specs.Held.{IsRole};
 ghost use Rattle.rows_video.specs.Scalers as scalers;
 ghost use Rattle.headers.specs.declared.Group.TheVariants as groups;
 ghost use Rattle.headers.specs.Told.{cell_in, IsGroup};
-ghost use Rattle.judging.specs.Judged.{judged_in};
+ghost use Rattle.judging.specs.Judged.{reason_for, cell_for};
 
-use grants::{Numbers, Part, Spans};
+use grants::RoleGrants;
 use headers::Group;
-use meaning::{Cell, NO_REGISTER, SubAddress};
+use meaning::{Cell, Reason, SubAddress};
 
-// What speaks against a parameter, 0 where nothing does, and the cell that it is for; where it is for none, the reason is 6.
+// What speaks against a parameter, if anything does, and the cell that it is for, whatever speaks against it; where it is for none, the reason
+// is 6.
 #[derive(Clone, Copy)]
 pub struct Judged {
-    pub reason: u32,
+    pub verdict: Result<(), Reason>,
+    // Kept beside the verdict: `judge_parameter` tells it of a refused value too.
     pub cell: Cell,
 }
 
-// A reason, and the cell by its number.
-fn for_cell(reason: u32, number: usize) -> Judged
-    ensures told { result ≡ record { reason = reason; cell = cell number } }
+// A verdict, and the cell by its number.
+fn for_cell(verdict: Result<(), Reason>, number: usize) -> Judged
+    ensures verdict { result.verdict ≡ verdict }
+    ensures cell { result.cell ≡ cell number }
 {
     Judged {
-        reason,
+        verdict,
         cell: Cell(number),
     }
 }
 
-// A parameter under 01.00. Here and below `starts`, `lasts` and `numbers` are the grants as they are kept, and `part` those of the addresses' role.
+// A parameter under 01.00. Here and below `part` are the grants of the addresses' role.
 fn judge_target(
     address: SubAddress,
     value: u32,
-    starts: &Spans,
-    lasts: &Spans,
-    numbers: &Numbers,
-    part: Part,
+    part: &RoleGrants<'_>,
 ) -> Judged
     requires narrow { value < 2 ^ 24 }
-    requires inside { part.to ≤ most_grants }
-    ensures judged { (g : Terms) → Granting g 1 starts.now lasts.now part → result ≡ judged_in g (cell_in groups.Target address) value }
+    ensures verdict { (g : Terms) → IsRole g 1 part.now → reason_in result.verdict ≡ reason_for g (cell_in groups.Target address) value }
+    ensures cell { result.cell ≡ cell_for (cell_in groups.Target address) }
 {
     let a = address.0;
     match a {
         0x3f => for_cell(rows_3d::alpha_constants_reason(value), 0),
-        0x50 => for_cell(
-            rows_3d::target_address_reason(value, starts, lasts, numbers, part),
-            1,
-        ),
+        0x50 => for_cell(rows_3d::target_address_reason(value, part), 1),
         0x51 => for_cell(rows_3d::location_reason(value), 2),
         0x52 => for_cell(rows_3d::format_reason(value), 3),
-        _ => for_cell(NO_REGISTER, 0),
+        _ => for_cell(Err(Reason::NoRegister), 0),
     }
 }
 
 // The same under 02.0n, where `base` is the cell of the stage's first register,
 fn judge_stage(base: Cell, address: SubAddress, value: u32) -> Judged
     requires stage { IsGroup (groups.Stage base) }
-    ensures judged { (g : Terms) → result ≡ judged_in g (cell_in (groups.Stage base) address) value }
+    ensures verdict { (g : Terms) → reason_in result.verdict ≡ reason_for g (cell_in (groups.Stage base) address) value }
+    ensures cell { result.cell ≡ cell_for (cell_in (groups.Stage base) address) }
 {
     let a = address.0;
     match a {
         0x50 => for_cell(rows_3d::stage_reason(value), base.0),
         0x51 => for_cell(rows_3d::stage_reason(value), base.0 + 1),
-        _ => for_cell(NO_REGISTER, 0),
+        _ => for_cell(Err(Reason::NoRegister), 0),
     }
 }
 
 // and under 02.2n.
 fn judge_sample(base: Cell, address: SubAddress, value: u32) -> Judged
     requires sample { IsGroup (groups.Sample base) }
-    ensures judged { (g : Terms) → result ≡ judged_in g (cell_in (groups.Sample base) address) value }
+    ensures verdict { (g : Terms) → reason_in result.verdict ≡ reason_for g (cell_in (groups.Sample base) address) value }
+    ensures cell { result.cell ≡ cell_for (cell_in (groups.Sample base) address) }
 {
     let a = address.0;
     match a {
         0x30 => for_cell(rows_3d::levels_reason(value), base.0),
         0x31 => for_cell(rows_3d::filters_reason(value), base.0 + 1),
         0x32 => for_cell(rows_3d::mapping_reason(value), base.0 + 2),
-        _ => for_cell(NO_REGISTER, 0),
+        _ => for_cell(Err(Reason::NoRegister), 0),
     }
 }
 
@@ -91,28 +91,24 @@ pub fn judge_parameter(
     group: Group,
     address: SubAddress,
     value: u32,
-    starts: &Spans,
-    lasts: &Spans,
-    numbers: &Numbers,
-    part: Part,
+    part: &RoleGrants<'_>,
 ) -> Judged
     requires group { IsGroup group }
     requires narrow { value < 2 ^ 24 }
-    requires inside { part.to ≤ most_grants }
-    ensures judged { (g : Terms) → Granting g 1 starts.now lasts.now part → result ≡ judged_in g (cell_in group address) value }
+    ensures verdict { (g : Terms) → IsRole g 1 part.now → reason_in result.verdict ≡ reason_for g (cell_in group address) value }
+    ensures cell { result.cell ≡ cell_for (cell_in group address) }
 {
     match group {
         Group::Sample(base) => judge_sample(base, address, value),
         Group::Stage(base) => judge_stage(base, address, value),
-        Group::Target => judge_target(address, value, starts, lasts, numbers, part),
-        Group::Nothing => for_cell(NO_REGISTER, 0),
+        Group::Target => judge_target(address, value, part),
     }
 }
 
 // A word for 2208, 220C or 2210: 7 and 8.
-pub fn overlay_reason(index: usize, value: u32) -> u32
+pub fn overlay_reason(index: usize, value: u32) -> Result<(), Reason>
     requires three { index < 3 }
-    ensures reason { (g : Terms) → result ≡ value_reason g (register_at (cell (first_video + index))) value }
+    ensures reason { (g : Terms) → reason_in result ≡ value_reason g (register_at (cell (first_video + index))) value }
 {
     match index {
         0..=1 => rows_video::overlay_reason(value),
@@ -124,22 +120,18 @@ pub fn overlay_reason(index: usize, value: u32) -> u32
 pub fn scaler_reason(
     index: usize,
     value: u32,
-    starts: &Spans,
-    lasts: &Spans,
-    numbers: &Numbers,
-    part: Part,
-) -> u32
+    part: &RoleGrants<'_>,
+) -> Result<(), Reason>
     requires seven { index < 7 }
-    requires inside { part.to ≤ most_grants }
-    ensures reason { (g : Terms) (c role : ℕ) → scalers.Scaler c role → Granting g role starts.now lasts.now part → result ≡ value_reason g (register_at (cell (c + index))) value }
+    ensures reason { (g : Terms) (c role : ℕ) → scalers.Scaler c role → IsRole g role part.now → reason_in result ≡ value_reason g (register_at (cell (c + index))) value }
 {
     match index {
         0 => rows_video::deinterlace_reason(value),
         1 => rows_video::sub_picture_reason(value),
-        2 => rows_video::first_address_reason(value, starts, lasts, numbers, part),
-        3 => rows_video::address_reason(value, starts, lasts, numbers, part),
+        2 => rows_video::first_address_reason(value, part),
+        3 => rows_video::address_reason(value, part),
         4 => rows_video::destination_stride_reason(value),
         5 => rows_video::source_stride_reason(value),
-        _ => rows_video::address_reason(value, starts, lasts, numbers, part),
+        _ => rows_video::address_reason(value, part),
     }
 }

@@ -7,11 +7,12 @@ ghost use Rattle.laws.specs.Lists.{join};
 ghost use Rattle.meaning.specs.Words.{words_of};
 ghost use Rattle.meaning.specs.Registers.{first_video, end_video};
 ghost use Rattle.meaning.specs.State.{state_words, marked, count_in};
+ghost use Rattle.meaning.specs.Answers.{answer_in};
 ghost use Rattle.meaning.specs.Lister.{digit, decimal, list_answer, list_leaves};
 ghost use Rattle.lines.specs.Lines.{digit_pairs, cell_line_3d, cell_line_video};
 ghost use Rattle.lister.specs.Listed.{lines_from, head_line};
 
-use meaning::{Answer, BAD_STATE, Cell, END_VIDEO, FIRST_VIDEO, NO_ROOM, SUCCESS};
+use meaning::{Answer, Cell, END_VIDEO, FIRST_VIDEO, Reason};
 
 // The two digits of each byte. A constant is copied wherever it is used, so `list` makes one copy and lends it.
 const DIGIT_PAIRS: [u8; 512] = *b"\
@@ -136,14 +137,11 @@ fn put_lines_video(pairs: &[u8; 512], state: &[u8], out: &mut [u8], start: usize
 
 // Lists the marked cells of a state: 1 if the state is not well-formed, 11 if the output is too short, else 0 and the bytes written.
 pub fn list(state: &[u8], out: &mut [u8]) -> Answer
-    ensures answer { result ≡ list_answer (words_of state.now) (length out.old) }
+    ensures answer { answer_in result ≡ list_answer (words_of state.now) (length out.old) }
     ensures bytes { out.new ≡ list_leaves (words_of state.now) out.old }
 {
     if !states::well_formed(state) {
-        return Answer {
-            reason: BAD_STATE,
-            place: 0,
-        };
+        return Err(Reason::BadState.at(0));
     }
     let in_3d = states::marked_between(state, 0, FIRST_VIDEO);
     let in_video = states::marked_between(state, FIRST_VIDEO, END_VIDEO);
@@ -152,17 +150,11 @@ pub fn list(state: &[u8], out: &mut [u8]) -> Answer
     let first_video = first_line + 26 * in_3d;
     let need = first_video + 22 * in_video;
     if out.len() < need {
-        return Answer {
-            reason: NO_ROOM,
-            place: 0,
-        };
+        return Err(Reason::NoRoom.at(0));
     }
     let pairs = DIGIT_PAIRS;
     put_head(out, in_3d + in_video, digits);
     put_lines_3d(&pairs, state, out, first_line, 0, in_3d);
     put_lines_video(&pairs, state, out, first_video);
-    Answer {
-        reason: SUCCESS,
-        place: need,
-    }
+    Ok(need)
 }

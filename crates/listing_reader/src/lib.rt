@@ -13,7 +13,7 @@ ghost use Rattle.listings.specs.Lines.{line_for};
 ghost use Rattle.line_reader.specs.Named.{digit_table};
 ghost use Rattle.listing_reader.specs.Counted.{decimal_or_10, CountRun};
 
-use meaning::{Answer, BAD_STATE, CELLS, FIRST_VIDEO, NOT_A_LISTING, STATE_WORDS, SUCCESS, State};
+use meaning::{Answer, CELLS, FIRST_VIDEO, Reason, STATE_WORDS, State};
 
 // What each byte counts as a hex digit; 16 if it is none. A constant is copied wherever it is used, so `read_listing` makes one copy and lends
 // it.
@@ -36,15 +36,6 @@ const DIGITS: [u8; 256] = *b"\
     \x10\x10\x10\x10\x10\x10\x10\x10\x10\x10\x10\x10\x10\x10\x10\x10\
     ";
 
-fn refused(place: usize) -> Answer
-    ensures answer { result ≡ answer not_listing place }
-{
-    Answer {
-        reason: NOT_A_LISTING,
-        place,
-    }
-}
-
 // The bytes of a cell's line.
 fn width(c: usize) -> usize
     ensures width { result ≡ length (form_of (line_for c)) }
@@ -61,7 +52,7 @@ fn read_lines(digits: &[u8; 256], text: &[u8], start: usize, n: usize, state: &m
     requires inside { start ≤ length text.now }
     requires few { n ≤ cells }
     requires array { length state.old ≡ state_words }
-    ensures answer { result ≡ (further start (read_lines table_lines n (drop start text.now))).answer }
+    ensures answer { answer_in result ≡ (further start (read_lines table_lines n (drop start text.now))).answer }
     ensures state { state.new ≡ apply_all state.old (read_lines table_lines n (drop start text.now)).writes }
 {
     let mut at = start;
@@ -72,7 +63,7 @@ fn read_lines(digits: &[u8; 256], text: &[u8], start: usize, n: usize, state: &m
         let line = line_reader::read_line(digits, text, at, c, end);
         let found = line.cell;
         if CELLS <= found {
-            return refused(at + line_places::furthest(text, at, c, end));
+            return Err(Reason::NotAListing.at(at + line_places::furthest(text, at, c, end)));
         }
         at += width(found);
         left -= 1;
@@ -81,12 +72,9 @@ fn read_lines(digits: &[u8; 256], text: &[u8], start: usize, n: usize, state: &m
         state[CELLS + found] = 1;
     }
     if at != text.len() {
-        return refused(at);
+        return Err(Reason::NotAListing.at(at));
     }
-    Answer {
-        reason: SUCCESS,
-        place: at,
-    }
+    Ok(at)
 }
 
 // What a decimal digit counts; 10 for any other byte.
@@ -176,28 +164,23 @@ fn key_bytes(text: &[u8]) -> usize
 // Reads a listing back: 1 if the buffer of the state is not as long as a state, 19 at the first byte that begins no listing, or at
 // the text's length if it is cut short; else 0 and the text's length. What the buffer held does not matter, and a refusal leaves it; bytes past its last whole word stay.
 pub fn read_listing(text: &[u8], state: &mut [u8]) -> Answer
-    ensures answer { result ≡ listing_answer text.now (words_of state.old) }
-    ensures bytes { state.new ≡ settle result (over (bytes_of (listing_leaves text.now (words_of state.old))) state.old) state.old }
+    ensures answer { answer_in result ≡ listing_answer text.now (words_of state.old) }
+    ensures bytes { state.new ≡ settle (answer_in result) (over (bytes_of (listing_leaves text.now (words_of state.old))) state.old) state.old }
 {
     if state.len() / 4 != STATE_WORDS {
-        return Answer {
-            reason: BAD_STATE,
-            place: 0,
-        };
+        return Err(Reason::BadState.at(0));
     }
     let agreed = key_bytes(text);
     if agreed < 6 {
-        return refused(agreed);
+        return Err(Reason::NotAListing.at(agreed));
     }
     let head = read_count(text, 6);
     if !head.fine {
-        return refused(head.at);
+        return Err(Reason::NotAListing.at(head.at));
     }
     let digits = DIGITS;
     let mut own = [0u32; STATE_WORDS];
-    let answer = read_lines(&digits, text, head.at, head.count, &mut own);
-    if answer.reason == 0 {
-        states::store(&own, state);
-    }
-    answer
+    let place = read_lines(&digits, text, head.at, head.count, &mut own)?;
+    states::store(&own, state);
+    Ok(place)
 }

@@ -31,10 +31,8 @@ fn series_need(state: &[u8], first: usize, rows: usize, count: usize) -> usize
     ensures need { result ≡ series_need (marked (words_of state.now)) first rows 0 count }
 {
     let mut need: usize = 0;
-    let mut n = 0;
-    while n < count {
+    for n in 0..count {
         need += group_need(state, first + rows * n, rows);
-        n += 1;
     }
     need
 }

@@ -7,6 +7,7 @@ use Rattle.meaning.specs.Grants.{is_grant}
 use Rattle.meaning.specs.State.{value_at, mark_at}
 use Rattle.meaning.specs.Pair.{target_cell, location_cell, memory_named, target_of}
 use Rattle.grants.specs.declared.Part.{Part}
+use Rattle.grants.specs.declared.RoleGrants.{RoleGrants}
 use Rattle.grants.specs.Kept.{which_in}
 use Rattle.pair.specs.declared.Pair.{Pair}
 use Rattle.pair.specs.Marks.{came_back, restored}
@@ -42,3 +43,17 @@ kept_in starts lasts numbers part target location now =
 abbrev pub KnownLocal : List ℕ → List ℕ → List ℕ → Part → List ℕ → Type 0
 KnownLocal starts lasts numbers part st =
     0 < mark_at st target_cell → (value_at st target_cell < 2 ^ 24) × T (is_grant (which_in starts lasts numbers part (Only 0) (target_of st)))
+
+-- ---- the same of a role's grants as code holds them
+
+abbrev pub which_by : RoleGrants → Pair → Option ℕ
+which_by r p = which_pair r.starts.now r.lasts.now r.numbers.now r.part p
+
+abbrev pub fine_by : RoleGrants → Pair → Bool
+fine_by r p = fine_in r.starts.now r.lasts.now r.numbers.now r.part p
+
+abbrev pub kept_by : RoleGrants → ℕ → ℕ → List ℕ → Bool
+kept_by r target location now = kept_in r.starts.now r.lasts.now r.numbers.now r.part target location now
+
+abbrev pub KnownBy : RoleGrants → List ℕ → Type 0
+KnownBy r st = KnownLocal r.starts.now r.lasts.now r.numbers.now r.part st

@@ -8,10 +8,10 @@ ghost use Rattle.meaning.specs.Grants.{most_grants};
 ghost use Rattle.meaning.specs.State.{state_words};
 ghost use Rattle.meaning.specs.Pair.{memory_named};
 ghost use Rattle.pair.specs.Marks.{back, restored};
-ghost use Rattle.pair.specs.Judged.{pair_of, which_pair, fine_in, kept_in, KnownLocal};
+ghost use Rattle.pair.specs.Judged.{pair_of, which_by, fine_by, kept_by, KnownBy};
 
-use grants::{Numbers, Part, Spans};
-use meaning::{CELLS, Cell, LOCATION_CELL, Memory, State, TARGET_CELL, Which};
+use grants::RoleGrants;
+use meaning::{CELLS, Cell, LOCATION_CELL, Memory, State, TARGET_CELL};
 
 // The two values, and their marks.
 #[derive(Clone, Copy)]
@@ -46,33 +46,27 @@ fn memory(mark: u32, location: u32) -> u32
 }
 
 // The grant that admits the target's address in its memory. No grant ends above 2^32, where the address of a value of more than 24 bits would
-// lie. Here and below `starts`, `lasts` and `numbers` are the grants as they are kept, and `part` those of the target.
-fn which_of(pair: Pair, starts: &Spans, lasts: &Spans, numbers: &Numbers, part: Part) -> Which
-    requires inside { part.to ≤ most_grants }
-    ensures which { result ≡ which_pair starts.now lasts.now numbers.now part pair }
+// lie. Here and below `part` are the target's grants.
+fn which_of(pair: Pair, part: &RoleGrants<'_>) -> Option<usize>
+    ensures which { result ≡ which_by part.now pair }
 {
     let value = pair.target;
     if 0xffffff < value {
-        return Which::Nobody;
+        return None;
     }
     let m = memory(pair.located, pair.location);
     let a = rows_3d::target_address(value);
-    grants::which(starts, lasts, numbers, part, Memory::Only(m), a)
+    part.which(Memory::Only(m), a)
 }
 
 // Cell 1 is not marked, or its address is granted in the memory that cell 2 names.
-fn fine_of(pair: Pair, starts: &Spans, lasts: &Spans, numbers: &Numbers, part: Part) -> bool
-    requires inside { part.to ≤ most_grants }
-    ensures fine { result ≡ fine_in starts.now lasts.now numbers.now part pair }
+fn fine_of(pair: Pair, part: &RoleGrants<'_>) -> bool
+    ensures fine { result ≡ fine_by part.now pair }
 {
     if pair.marked == 0 {
         return true;
     }
-    let found = which_of(pair, starts, lasts, numbers, part);
-    if let Which::Nobody = found {
-        return false;
-    }
-    true
+    which_of(pair, part).is_some()
 }
 
 // An address that is known to be granted in memory 0 needs no second look if it is there that it lies. `mark` is 0 where there is none that
@@ -90,33 +84,28 @@ fn settled(known: bool, mark: u32, located: u32, location: u32) -> bool
 }
 
 // The same two for a state.
-pub fn which(state: &[u8], starts: &Spans, lasts: &Spans, numbers: &Numbers, part: Part) -> Which
+pub fn which(state: &[u8], part: &RoleGrants<'_>) -> Option<usize>
     requires whole { length (words_of state.now) ≡ state_words }
-    requires inside { part.to ≤ most_grants }
-    ensures which { result ≡ which_pair starts.now lasts.now numbers.now part (pair_of (words_of state.now)) }
+    ensures which { result ≡ which_by part.now (pair_of (words_of state.now)) }
 {
-    which_of(pair_of(state), starts, lasts, numbers, part)
+    which_of(pair_of(state), part)
 }
 
 // `known` says that its address, if it has one, is granted in memory 0, which the caller may have seen.
 pub fn fine(
     state: &[u8],
-    starts: &Spans,
-    lasts: &Spans,
-    numbers: &Numbers,
-    part: Part,
+    part: &RoleGrants<'_>,
     known: bool,
 ) -> bool
     requires whole { length (words_of state.now) ≡ state_words }
-    requires inside { part.to ≤ most_grants }
-    requires known { known ≡ true → KnownLocal starts.now lasts.now numbers.now part (words_of state.now) }
-    ensures fine { result ≡ fine_in starts.now lasts.now numbers.now part (pair_of (words_of state.now)) }
+    requires known { known ≡ true → KnownBy part.now (words_of state.now) }
+    ensures fine { result ≡ fine_by part.now (pair_of (words_of state.now)) }
 {
     let pair = pair_of(state);
     if settled(known, pair.marked, pair.located, pair.location) {
         return true;
     }
-    fine_of(pair, starts, lasts, numbers, part)
+    fine_of(pair, part)
 }
 
 // A mark that has not come back is as it was.
@@ -146,16 +135,12 @@ pub fn kept(
     target: u32,
     location: u32,
     own: &mut State,
-    starts: &Spans,
-    lasts: &Spans,
-    numbers: &Numbers,
-    part: Part,
+    part: &RoleGrants<'_>,
     known: bool,
 ) -> bool
     requires whole { length own.old ≡ state_words }
-    requires inside { part.to ≤ most_grants }
-    requires known { known ≡ true → KnownLocal starts.now lasts.now numbers.now part own.old }
-    ensures kept { result ≡ kept_in starts.now lasts.now numbers.now part target location own.old }
+    requires known { known ≡ true → KnownBy part.now own.old }
+    ensures kept { result ≡ kept_by part.now target location own.old }
     ensures own { own.new ≡ restored target location own.old }
 {
     let t = own[CELLS + TARGET_CELL];
@@ -176,5 +161,5 @@ pub fn kept(
     if settled(known, t, located, pair.location) {
         return true;
     }
-    fine_of(pair, starts, lasts, numbers, part)
+    fine_of(pair, part)
 }

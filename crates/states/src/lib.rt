@@ -35,10 +35,8 @@ fn gathered_marks(state: &[u8]) -> u32
     ensures small { nat_le result 1 ≡ marks_to (words_of state.now) cells }
 {
     let mut marks: u32 = 0;
-    let mut c = 0;
-    while c < CELLS {
-        marks = marks | mark(state, Cell(c));
-        c += 1;
+    for c in 0..CELLS {
+        marks |= mark(state, Cell(c));
     }
     marks
 }
@@ -58,10 +56,8 @@ fn gathered_excess(state: &[u8]) -> u32
     ensures clear { (result == 0) ≡ clear_to (words_of state.now) cells }
 {
     let mut held: u32 = 0;
-    let mut c = 0;
-    while c < CELLS {
-        held = held | excess(value(state, Cell(c)), mark(state, Cell(c)));
-        c += 1;
+    for c in 0..CELLS {
+        held |= excess(value(state, Cell(c)), mark(state, Cell(c)));
     }
     held
 }
@@ -96,10 +92,8 @@ pub fn marked_between(state: &[u8], first: usize, end: usize) -> usize
     ensures count { result ≡ count_in (marked (words_of state.now)) first (end - first) }
 {
     let mut n: usize = 0;
-    let mut c = first;
-    while c < end {
+    for c in first..end {
         n += one(mark(state, Cell(c)));
-        c += 1;
     }
     n
 }
@@ -110,10 +104,8 @@ pub fn load(bytes: &[u8], state: &mut State)
     requires array { length state.old ≡ state_words }
     ensures loaded { state.new ≡ words_of bytes.now }
 {
-    let mut i = 0;
-    while i < STATE_WORDS {
+    for i in 0..STATE_WORDS {
         state[i] = words::word(bytes, i);
-        i += 1;
     }
 }
 
@@ -123,9 +115,7 @@ pub fn store(state: &State, bytes: &mut [u8])
     requires array { length state.now ≡ state_words }
     ensures stored { bytes.new ≡ over (bytes_of state.now) bytes.old }
 {
-    let mut i = 0;
-    while i < STATE_WORDS {
+    for i in 0..STATE_WORDS {
         words::put_word(bytes, i, state[i]);
-        i += 1;
     }
 }
