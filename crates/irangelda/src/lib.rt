@@ -3,11 +3,11 @@
 
 ghost use Rattle.std.specs.Prelude.{◌≡◌, ◌&&◌, [], ◌∷◌, ◌≤◌};
 ghost use Rattle.laws.specs.Lists.{every};
-ghost use Rattle.meaning.specs.Answers.{number_of};
+ghost use Rattle.meaning.specs.Answers.{answer_in, number_of};
 ghost use Rattle.meaning.specs.Registers as registers;
 ghost use Rattle.meaning.specs.Exported as exported;
 
-use meaning::{Answer, BAD_BUFFER, Cell, MOST_BYTES};
+use meaning::{Answer, Cell, MOST_BYTES, Reason};
 
 // 13: no buffer is over 65,536 bytes,
 fn buffer_fine(bytes: &[u8]) -> bool
@@ -64,8 +64,8 @@ fn two_buffers_fine(state: &[u8], grants: &[u8]) -> bool
 
 // The answer as one number. No place is larger than a buffer is long.
 fn number(answer: Answer) -> u64
-    requires place { answer.place ≤ exported.most_bytes }
-    ensures number { result ≡ number_of answer }
+    requires place { (answer_in answer).place ≤ exported.most_bytes }
+    ensures number { result ≡ number_of (answer_in answer) }
 {
     match answer {
         Ok(place) => place as u64 * 256,
@@ -80,7 +80,7 @@ pub fn irangelda_read(batch: &[u8], grants: &[u8], state: &mut [u8]) -> u64
     ensures bytes { state.new ≡ exported.exported_read_leaves batch.now grants.now state.old }
 {
     if !word_buffers_fine(batch, grants, state) {
-        return BAD_BUFFER;
+        return number(Err(Reason::BadBuffer.at(0)));
     }
     number(reader::read(batch, grants, state))
 }
@@ -91,7 +91,7 @@ pub fn irangelda_size(state: &[u8], grants: &[u8]) -> u64
     ensures number { result ≡ number_of (exported.exported_size state.now grants.now) }
 {
     if !two_buffers_fine(state, grants) {
-        return BAD_BUFFER;
+        return number(Err(Reason::BadBuffer.at(0)));
     }
     number(writer::size(state, grants))
 }
@@ -102,7 +102,7 @@ pub fn irangelda_write(state: &[u8], grants: &[u8], out: &mut [u8]) -> u64
     ensures bytes { out.new ≡ exported.exported_write_leaves state.now grants.now out.old }
 {
     if !word_buffers_fine(state, grants, out) {
-        return BAD_BUFFER;
+        return number(Err(Reason::BadBuffer.at(0)));
     }
     number(writer::write(state, grants, out))
 }
@@ -113,7 +113,7 @@ pub fn irangelda_list(state: &[u8], out: &mut [u8]) -> u64
     ensures bytes { out.new ≡ exported.exported_list_leaves state.now out.old }
 {
     if !text_buffers_fine(state, out) {
-        return BAD_BUFFER;
+        return number(Err(Reason::BadBuffer.at(0)));
     }
     number(lister::list(state, out))
 }
@@ -124,7 +124,7 @@ pub fn irangelda_read_listing(listing: &[u8], state: &mut [u8]) -> u64
     ensures bytes { state.new ≡ exported.exported_read_listing_leaves listing.now state.old }
 {
     if !text_buffers_fine(state, listing) {
-        return BAD_BUFFER;
+        return number(Err(Reason::BadBuffer.at(0)));
     }
     number(listing_reader::read_listing(listing, state))
 }
@@ -135,7 +135,7 @@ pub fn irangelda_which_grant(state: &[u8], grants: &[u8], cell: u32) -> u64
     ensures number { result ≡ number_of (exported.exported_which_grant state.now grants.now (registers.cell cell)) }
 {
     if !two_buffers_fine(state, grants) {
-        return BAD_BUFFER;
+        return number(Err(Reason::BadBuffer.at(0)));
     }
     number(query::which_grant(state, grants, Cell(cell as usize)))
 }
