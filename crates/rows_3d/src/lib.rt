@@ -15,6 +15,7 @@ use rules::{alpha_constants, format_byte, location, must_be_clear};
 use sampling::{filters, levels, mapping};
 
 // 8 where the value rule is broken. It is asked once the mask has been: so no value is looked at twice.
+#[tactic(auto, unfolding(meaning::specs::Reader::unless))]
 fn ruled_reason(obeyed: bool) -> Result<(), Reason>
     ensures reason { reason_in result ≡ unless obeyed bad_value success }
 {
@@ -46,10 +47,7 @@ pub fn target_address(value: u32) -> u32
 }
 
 // 01.00.50, cell 1. `part` are the grants of the address's role.
-pub fn target_address_reason(
-    value: u32,
-    part: &RoleGrants<'_>,
-) -> Result<(), Reason>
+pub fn target_address_reason(value: u32, part: &RoleGrants<'_>) -> Result<(), Reason>
     requires narrow { value < 2 ^ 24 }
     ensures reason { (g : Terms) → IsRole g 1 part.now → reason_in result ≡ value_reason g (register_at (cell 1)) value }
 {
