@@ -6,16 +6,9 @@ use mathlib.Core.Bool.{Bool, true, false, cond}
 use mathlib.Core.List.{List}
 use Prim.Native.Nat.{ℕ, suc, ◌+◌, ◌-◌, ◌≤◌, ◌<◌}
 use native.Mathlib.Omega.{arith}
-use borrow.Author.Tests.{le-leb}
 use lib.ListN.{get_or}
 use Rattle.meaning.specs.declared.Memory.{Memory}
-use Rattle.grants.specs.Kept.{number_in, lies_as, spans_at, covers_at, which_kept}
-
--- what a grant that spans the address tells is whether it is in the memory
-pub in_span : (starts lasts numbers : List ℕ) (i : ℕ) (m : Memory) (a : ℕ) → get_or starts i 0 ≤ a → a ≤ get_or lasts i 0
-    → {r : Bool} → r ≡ lies_as m (get_or numbers i 0) → r ≡ covers_at starts lasts numbers i m a
-unfolding covers_at spans_at
-in_span starts lasts numbers i m a from to e = rw (le-leb (get_or starts i 0) a from, le-leb a (get_or lasts i 0) to) e
+use Rattle.grants.specs.Kept.{number_in, covers_at, which_kept}
 
 module _ (starts lasts numbers : List ℕ) (m : Memory) (a : ℕ) where
   -- the first of the kept grants from i on to the last

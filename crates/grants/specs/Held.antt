@@ -1,6 +1,6 @@
 -- Kept grants as code holds them, in one value: of all roles, and of one.
 -- Assumes nothing.
-use Rattle.std.specs.Prelude.{◌≡◌, Option, List, ℕ}
+use Rattle.std.specs.Prelude.{◌≡◌, Option, ℕ}
 use Rattle.meaning.specs.declared.Memory.{Memory}
 use Rattle.meaning.specs.Grants.{Terms}
 use Rattle.grants.specs.declared.Kept.{Kept}

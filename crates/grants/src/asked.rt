@@ -27,17 +27,12 @@ impl<'a> Kept<'a> {
 
 impl RoleGrants<'_> {
     // A kept grant covers the address, in the memory. Which memory it is in is asked last, so that a miss looks at two words alone.
+    #[tactic(auto, unfolding(crate::specs::Kept::covers_at, crate::specs::Kept::spans_at))]
     fn covers(&self, i: usize, memory: Memory, address: u32) -> bool
         requires inside { i < most_grants }
         ensures covers { result ≡ kept.covers_at self.now.starts.now self.now.lasts.now self.now.numbers.now i memory address }
     {
-        if address < self.starts[i] {
-            return false;
-        }
-        if self.lasts[i] < address {
-            return false;
-        }
-        lies(memory, self.numbers[i])
+        self.starts[i] <= address && address <= self.lasts[i] && lies(memory, self.numbers[i])
     }
 
     // THE TEST: the grant that admits the address, in whichever memory or in one. The first that covers it is the lowest-numbered, since a

@@ -60,7 +60,7 @@ fn lies(memory: Memory, number: u8) -> bool
 {
     match memory {
         Memory::Either => true,
-        Memory::Only(m) => (number / MEMORY_STEP) as u32 == m,
+        Memory::Only(m) => u32::from(number / MEMORY_STEP) == m,
     }
 }
 
@@ -68,5 +68,5 @@ fn lies(memory: Memory, number: u8) -> bool
 fn numbered(number: u8) -> usize
     ensures grant { result ≡ kept.number_in number }
 {
-    (number % MEMORY_STEP) as usize
+    usize::from(number % MEMORY_STEP)
 }
