@@ -54,11 +54,7 @@ pub fn scaler_address(value: u32) -> u32
 }
 
 // A scaler's register that holds an address. Here and below `part` are the grants of the address's role.
-fn scaler_address_reason(
-    value: u32,
-    mask: u32,
-    part: &RoleGrants<'_>,
-) -> Result<(), Reason>
+fn scaler_address_reason(value: u32, mask: u32, part: &RoleGrants<'_>) -> Result<(), Reason>
     ensures reason { (g : Terms) (role : ℕ) → IsRole g role part.now → reason_in result ≡ value_reason g (address_register role mask) value }
 {
     if !must_be_clear(value, mask) {
@@ -89,20 +85,14 @@ pub fn sub_picture_reason(value: u32) -> Result<(), Reason>
 }
 
 // 23EC and 33EC: cells 89 and 96.
-pub fn first_address_reason(
-    value: u32,
-    part: &RoleGrants<'_>,
-) -> Result<(), Reason>
+pub fn first_address_reason(value: u32, part: &RoleGrants<'_>) -> Result<(), Reason>
     ensures reason { (g : Terms) (c role : ℕ) → Scaler c role → IsRole g role part.now → reason_in result ≡ value_reason g (register_at (cell (c + 2))) value }
 {
     scaler_address_reason(value, 0x2000000c, part)
 }
 
 // 23F0, 23FC, 33F0 and 33FC: cells 90, 93, 97 and 100, which are alike.
-pub fn address_reason(
-    value: u32,
-    part: &RoleGrants<'_>,
-) -> Result<(), Reason>
+pub fn address_reason(value: u32, part: &RoleGrants<'_>) -> Result<(), Reason>
     ensures second { (g : Terms) (c role : ℕ) → Scaler c role → IsRole g role part.now → reason_in result ≡ value_reason g (register_at (cell (c + 3))) value }
     ensures third { (g : Terms) (c role : ℕ) → Scaler c role → IsRole g role part.now → reason_in result ≡ value_reason g (register_at (cell (c + 6))) value }
 {
