@@ -1,4 +1,2 @@
 pub mod Known
-pub mod Judged
 pub mod Asked
-pub mod Arms

@@ -38,11 +38,8 @@ pub enum Row {
 }
 
 // 7 to 9 of a value, by the row of its register. `part` are the grants of the role of the row's addresses, if it has any.
-fn row_reason(
-    row: Row,
-    value: u32,
-    part: &RoleGrants<'_>,
-) -> Result<(), Reason>
+#[tactic(auto, unfolding(crate::specs::Rows::width_of))]
+fn row_reason(row: Row, value: u32, part: &RoleGrants<'_>) -> Result<(), Reason>
     requires narrow { value < 2 ^ width_of row }
     ensures reason { (g : Terms) (c role : ℕ) → RowOf row c role → ((role ≡ 0 → ⊥) → IsRole g role part.now) → reason_in result ≡ value_reason g (register_at (cell c)) value }
 {
@@ -67,31 +64,30 @@ fn row_reason(
 }
 
 // Nothing speaks against 0 in a register of the row, whatever is granted.
+#[tactic(auto, unfolding(crate::specs::Rows::takes_zero))]
 fn takes_zero(row: Row) -> bool
     ensures zero { result ≡ takes_zero row }
 {
     match row {
-        Row::TargetAddress => false,
-        Row::Format => false,
-        Row::FirstAddress => false,
-        Row::Address => false,
+        Row::TargetAddress | Row::Format | Row::FirstAddress | Row::Address => false,
         _ => true,
     }
 }
 
 // The value is as narrow as the registers of the row: 24 bits, or a word.
+#[tactic(auto, unfolding(crate::specs::Rows::width_of))]
 fn narrow(row: Row, value: u32) -> bool
     ensures narrow { result ≡ ltb value (2 ^ width_of row) }
 {
     match row {
-        Row::AlphaConstants => value <= 0xffffff,
-        Row::TargetAddress => value <= 0xffffff,
-        Row::Location => value <= 0xffffff,
-        Row::Format => value <= 0xffffff,
-        Row::Stage => value <= 0xffffff,
-        Row::Levels => value <= 0xffffff,
-        Row::Filters => value <= 0xffffff,
-        Row::Mapping => value <= 0xffffff,
+        Row::AlphaConstants
+        | Row::TargetAddress
+        | Row::Location
+        | Row::Format
+        | Row::Stage
+        | Row::Levels
+        | Row::Filters
+        | Row::Mapping => value <= 0xffffff,
         _ => true,
     }
 }
@@ -102,33 +98,16 @@ fn vacant(state: &[u8], cell: Cell, row: Row, value: u32) -> bool
     requires inside { cell.0 < cells }
     ensures vacant { result ≡ vacant_in row value (mark_at (words_of state.now) cell) }
 {
-    if value != 0 {
-        return false;
-    }
-    if takes_zero(row) {
-        return true;
-    }
-    states::mark(state, cell) == 0
+    value == 0 && (takes_zero(row) || states::mark(state, cell) == 0)
 }
 
 // A cell of the row may be written. The mark is looked at only where 0 is no value for the register: where a state is well-formed, an
 // unmarked value is 0.
-pub fn fine(
-    state: &[u8],
-    cell: Cell,
-    row: Row,
-    part: &RoleGrants<'_>,
-) -> bool
+pub fn fine(state: &[u8], cell: Cell, row: Row, part: &RoleGrants<'_>) -> bool
     requires formed { T (well_formed (words_of state.now)) }
     requires row { IsRow row cell.0 }
     ensures fine { (g : Terms) (role : ℕ) → RowOf row cell.0 role → ((role ≡ 0 → ⊥) → IsRole g role part.now) → result ≡ writable g (words_of state.now) cell }
 {
     let value = states::value(state, cell);
-    if vacant(state, cell, row, value) {
-        return true;
-    }
-    if !narrow(row, value) {
-        return false;
-    }
-    row_reason(row, value, part).is_ok()
+    vacant(state, cell, row, value) || (narrow(row, value) && row_reason(row, value, part).is_ok())
 }

@@ -1,11 +1,36 @@
 -- A vacant cell may be written; of another its width is asked, and then the reason decides.
 -- Assumes nothing.
-use mathlib.Core.Path.{sym, ◌∙◌}
-use borrow.Author.Tests.{ltb-true}
+use mathlib.Core.Path.{◌≡◌, refl, sym, ◌∙◌}
+use lib.Dec.{eqb}
+use Rattle.std.specs.Prelude.{Result, Ok, Err}
+use Rattle.std.specs.Result.{is_ok}
 use Rattle.laws.proofs.Arms.{told_true, told_false}
+use Rattle.meaning.specs.declared.Reason.{Reason}
+use Rattle.meaning.specs.declared.Reason.TheVariants as by
+use Rattle.meaning.specs.Answers.{reason_in}
 use Rattle.cells.proofs.Known.{known}
 use Rattle.cells.proofs.Asked.{whole, passed_over, looked_at_lem}
 use Rattle.cells.proofs.fine.Goals as goal
+
+-- every reason has a number other than 0
+nothing_against : {A : Type 0} (r : Result A Reason) → is_ok r ≡ eqb (reason_in r) 0
+nothing_against (Ok _) = refl
+nothing_against (Err by.BadState) = refl
+nothing_against (Err by.BadGrants) = refl
+nothing_against (Err by.BadOffset) = refl
+nothing_against (Err by.BadCount) = refl
+nothing_against (Err by.BadSetting) = refl
+nothing_against (Err by.NoRegister) = refl
+nothing_against (Err by.BitSet) = refl
+nothing_against (Err by.BadValue) = refl
+nothing_against (Err by.NotGranted) = refl
+nothing_against (Err by.EndsInside) = refl
+nothing_against (Err by.NoRoom) = refl
+nothing_against (Err by.NotWritable) = refl
+nothing_against (Err by.BadBuffer) = refl
+nothing_against (Err by.BadPair) = refl
+nothing_against (Err by.NotAListing) = refl
+nothing_against (Err by.EngineFull) = refl
 
 pub value-value-requires : goal.value-value-requires
 value-value-requires c = record { whole = whole _ c.requires.formed; inside = (known c.requires.row.1).low }
@@ -14,16 +39,16 @@ pub vacant-requires : goal.vacant-requires
 vacant-requires c = record { whole = whole _ c.requires.formed; inside = (known c.requires.row.1).low }
 
 pub returns-then-vacant : goal.returns-then-vacant
-returns-then-vacant c = record { fine = λ g role is given. sym (passed_over g _ c.requires.formed (known is) c.value-value.ensures.value c.vacant.ensures.vacant c.if-vacant.true) }
+returns-then-vacant c = record { fine = λ g role is given. c.if-vacant.true ∙ sym (passed_over g _ c.requires.formed (known is) c.value-value.ensures.value c.vacant.ensures.vacant c.if-vacant.true) }
 
-pub returns-then-not-narrow : goal.returns-then-not-narrow
-returns-then-not-narrow c = record { fine = λ g role is given. sym (looked_at_lem g _ c.requires.formed (known is) c.value-value.ensures.value c.vacant.ensures.vacant c.if-vacant.false ∙ rw (told_false c.narrow.ensures.narrow c.if-not-narrow.true)) }
-
-pub row_reason-requires : goal.row_reason-requires
-row_reason-requires c = record { narrow = ltb-true _ _ (told_true c.narrow.ensures.narrow c.if-not-narrow.false); inside = c.requires.inside }
-
-pub returns : goal.returns
-returns c = record {
+pub returns-then-narrow : goal.returns-then-narrow
+returns-then-narrow c = record {
   fine = λ g role is given. sym (looked_at_lem g _ c.requires.formed (known is) c.value-value.ensures.value c.vacant.ensures.vacant c.if-vacant.false
-      ∙ rw (told_true c.narrow.ensures.narrow c.if-not-narrow.false, c.row_reason.ensures.reason g _ role is given));
+      ∙ rw (told_true c.narrow.ensures.narrow c.if-narrow.true, ← c.row_reason.ensures.reason g _ role is given) (sym (c.is_ok.ensures.value ∙ nothing_against _)));
+}
+
+pub returns-else-narrow : goal.returns-else-narrow
+returns-else-narrow c = record {
+  fine = λ g role is given. c.if-narrow.false
+      ∙ sym (looked_at_lem g _ c.requires.formed (known is) c.value-value.ensures.value c.vacant.ensures.vacant c.if-vacant.false ∙ rw (told_false c.narrow.ensures.narrow c.if-narrow.false));
 }
