@@ -1,5 +1,6 @@
 -- A setting that is allowed names a group of the table, and each group is named by one.
 -- Assumes nothing.
+use Rattle.std.specs.Prelude.{Option, None}
 use mathlib.Core.Path.{◌≡◌, refl, ◌∙◌}
 use mathlib.Core.Bool.{false}
 use Prim.Native.Nat.{ℕ, ◌+◌, ◌*◌, ◌-◌, ◌/◌, ◌%◌, ◌<◌, ◌^◌}
@@ -13,7 +14,7 @@ use Rattle.meaning.specs.Registers.{cell, find_3d}
 use Rattle.meaning.specs.Batch.{allowed_types, type_allowed, allowed}
 use Rattle.registers.proofs.Tree.{tree_3d, by_tree}
 use Rattle.headers.specs.declared.Group.{Group}
-use Rattle.headers.specs.declared.Group.TheVariants.{Target, Stage, Sample, Nothing}
+use Rattle.headers.specs.declared.Group.TheVariants.{Target, Stage, Sample}
 use Rattle.headers.specs.Headers.{group_of02, group_of}
 use Rattle.headers.specs.Told.{cell_in, IsGroup, target, stage, sample, Leads, Names}
 
@@ -130,7 +131,7 @@ names s =
     ]
 
 -- one that the code finds no group for is none that is allowed
-pub unnamed : (s : ℕ) {G : Group} → G ≡ group_of s → G ≡ Nothing → allowed s ≡ false
+pub unnamed : (s : ℕ) {f : Option Group} → f ≡ group_of s → f ≡ None → allowed s ≡ false
 unnamed s e z = rw (← e, z) at (names s)
 
 -- each group is named by some setting: a contract that speaks of those determines what it answers
@@ -138,18 +139,3 @@ pub some_setting : (G : Group) → IsGroup G → (s : ℕ) × Leads s G
 some_setting _ target = (0x10000, leads_target 0x10000 refl (sub_type_is 0x10000))
 some_setting _ (stage n h) = let s = 0x20000 + 0x1000000 * n in (s, leads_stage s (omega arith) n h (omega (arith, sub_type_is s)))
 some_setting _ (sample n h) = let s = 0x20000 + 0x1000000 * (0x20 + n) in (s, leads_sample s (omega arith) n h (omega (arith, sub_type_is s)))
-
--- ---- a setting, by the tests of the code
-
-module _ (s : ℕ) where
-  pub of_02 : s % 0x1000000 ≡ 0x20000 → {u : ℕ} {G : Group} → u ≡ para_sub_type s → G ≡ group_of02 u → G ≡ group_of s
-  unfolding group_of
-  of_02 e p q = q ∙ rw (eq-eqb (s % 0x1000000) 0x20000 e, p)
-
-  pub of_target : s ≡ 0x10000 → Target ≡ group_of s
-  unfolding group_of
-  of_target e = rw e
-
-  pub of_none : s < 2 ^ 32 → (s % 0x1000000 ≡ 0x20000 → ⊥) → (s ≡ 0x10000 → ⊥) → Nothing ≡ group_of s
-  unfolding group_of
-  of_none w n m = rw (ne_eqb (s % 0x1000000) 0x20000 n, ne_eqb (s % 2 ^ 32) 0x10000 (λ e. m (omega arith)))

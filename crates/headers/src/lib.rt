@@ -40,6 +40,7 @@ pub struct ScalerOffset {
 
 // The number of the first register of a run of n words, from an offset on that stands so many bytes behind the first of a row of video
 // registers: 3 between two registers, 4 where the run is empty or leaves the row.
+#[tactic(auto, using(laws::proofs::Arms::tests), unfolding(crate::specs::Headers::run_index))]
 fn run_index(distance: u32, n: usize, row: usize) -> Result<usize, Reason>
     requires few { n < 2 ^ 16 }
     ensures index { result ≡ run_index distance n row }
@@ -58,6 +59,7 @@ fn run_index(distance: u32, n: usize, row: usize) -> Result<usize, Reason>
 }
 
 // A run for 2208 to 2210.
+#[tactic(auto, unfolding(crate::specs::Headers::overlay_run))]
 fn overlay_run(offset: VideoOffset, n: usize) -> Result<Header, Reason>
     requires low { 0x2208 ≤ offset.0 }
     requires few { n < 2 ^ 16 }
@@ -68,6 +70,7 @@ fn overlay_run(offset: VideoOffset, n: usize) -> Result<Header, Reason>
 }
 
 // The scaler that an offset is among the registers of.
+#[tactic(auto, using(laws::proofs::Arms::spans), unfolding(crate::specs::Headers::scaler_at))]
 fn scaler_at(offset: VideoOffset) -> Option<ScalerOffset>
     ensures told { result ≡ scaler_at offset }
 {
@@ -88,6 +91,7 @@ fn scaler_at(offset: VideoOffset) -> Option<ScalerOffset>
 }
 
 // A run for a scaler, or for no register.
+#[tactic(auto, unfolding(crate::specs::Headers::scaler_run))]
 fn scaler_run(offset: VideoOffset, n: usize) -> Result<Header, Reason>
     requires few { n < 2 ^ 16 }
     ensures opened { result ≡ scaler_run offset n }
@@ -102,6 +106,7 @@ fn scaler_run(offset: VideoOffset, n: usize) -> Result<Header, Reason>
 }
 
 // What a header opens.
+#[tactic(auto, using(laws::proofs::Arms::spans, meaning::proofs::Stretches::count_small), unfolding(crate::specs::Headers::header_of))]
 pub fn header_of(header: u32) -> Result<Header, Reason>
     ensures opened { result ≡ header_of header }
 {
@@ -118,6 +123,7 @@ pub fn header_of(header: u32) -> Result<Header, Reason>
 }
 
 // The group that a setting names. 02 with a stage or a sample, 01 with 00: what is left of a setting is 0.
+#[tactic(auto, using(laws::proofs::Arms::spans), unfolding(crate::specs::Headers::group_of, crate::specs::Headers::group_of02))]
 pub fn group_of(setting: u32) -> Option<Group>
     ensures group { result ≡ group_of setting }
 {
