@@ -2,15 +2,14 @@
 -- Assumes nothing.
 use Rattle.std.specs.Prelude.{Option, Some, None, ℕ}
 use Rattle.meaning.specs.declared.Cell.{Cell}
-use Rattle.meaning.specs.Registers.{cell, register_at}
+use Rattle.meaning.specs.Registers.{cell}
 use Rattle.meaning.specs.Grants.{Terms}
 use Rattle.meaning.specs.Answers.{no_register}
-use Rattle.meaning.specs.Reader.{value_reason}
+use Rattle.meaning.specs.Reader.{found_reason}
 
 -- 7, 8 and 9 of the register; 6 where there is none
 abbrev pub reason_for : Terms → Option Cell → ℕ → ℕ
-reason_for g (Some c) v = value_reason g (register_at c) v
-reason_for g None v = no_register
+reason_for g f v = found_reason g no_register f v
 
 -- and its cell
 abbrev pub cell_for : Option Cell → Cell

@@ -38,11 +38,8 @@ fn for_cell(verdict: Result<(), Reason>, number: usize) -> Judged
 }
 
 // A parameter under 01.00. Here and below `part` are the grants of the addresses' role.
-fn judge_target(
-    address: SubAddress,
-    value: u32,
-    part: &RoleGrants<'_>,
-) -> Judged
+#[tactic(auto, using(laws::proofs::Arms::tests), unfolding(headers::specs::Told::cell_in))]
+fn judge_target(address: SubAddress, value: u32, part: &RoleGrants<'_>) -> Judged
     requires narrow { value < 2 ^ 24 }
     ensures verdict { (g : Terms) → IsRole g 1 part.now → reason_in result.verdict ≡ reason_for g (cell_in groups.Target address) value }
     ensures cell { result.cell ≡ cell_for (cell_in groups.Target address) }
@@ -58,6 +55,7 @@ fn judge_target(
 }
 
 // The same under 02.0n, where `base` is the cell of the stage's first register,
+#[tactic(auto, using(laws::proofs::Arms::tests), unfolding(headers::specs::Told::cell_in))]
 fn judge_stage(base: Cell, address: SubAddress, value: u32) -> Judged
     requires stage { IsGroup (groups.Stage base) }
     ensures verdict { (g : Terms) → reason_in result.verdict ≡ reason_for g (cell_in (groups.Stage base) address) value }
@@ -72,6 +70,7 @@ fn judge_stage(base: Cell, address: SubAddress, value: u32) -> Judged
 }
 
 // and under 02.2n.
+#[tactic(auto, using(laws::proofs::Arms::tests), unfolding(headers::specs::Told::cell_in))]
 fn judge_sample(base: Cell, address: SubAddress, value: u32) -> Judged
     requires sample { IsGroup (groups.Sample base) }
     ensures verdict { (g : Terms) → reason_in result.verdict ≡ reason_for g (cell_in (groups.Sample base) address) value }
@@ -117,11 +116,7 @@ pub fn overlay_reason(index: usize, value: u32) -> Result<(), Reason>
 }
 
 // A word for one of a scaler's registers: 7 to 9.
-pub fn scaler_reason(
-    index: usize,
-    value: u32,
-    part: &RoleGrants<'_>,
-) -> Result<(), Reason>
+pub fn scaler_reason(index: usize, value: u32, part: &RoleGrants<'_>) -> Result<(), Reason>
     requires seven { index < 7 }
     ensures reason { (g : Terms) (c role : ℕ) → scalers.Scaler c role → IsRole g role part.now → reason_in result ≡ value_reason g (register_at (cell (c + index))) value }
 {
