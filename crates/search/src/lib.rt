@@ -25,12 +25,13 @@ fn writable(state: &[u8], cell: Cell, row: Row, part: &RoleGrants<'_>) -> Result
     ensures lowest { (g : Terms) (role : ℕ) → RowOf row cell.0 role → ((role ≡ 0 → ⊥) → IsRole g role part.now) → result_err result ≡ lowest_bad g (words_of state.now) cell.0 1 }
 {
     if cells::fine(state, cell, row, part) {
-        return Ok(());
+        Ok(())
+    } else {
+        Err(cell)
     }
-    Err(cell)
 }
 
-// The lowest of the cells of 01.00 that may not be written is what comes of it; the same below for the other sections of the table.
+// The cells of 01.00 may be written, or the lowest that may not is told; the same below for the other sections of the table.
 fn target_writable(state: &[u8], part: &RoleGrants<'_>) -> Result<(), Cell>
     requires formed { T (well_formed (words_of state.now)) }
     ensures lowest { (g : Terms) → IsRole g 1 part.now → result_err result ≡ lowest_bad g (words_of state.now) 0 4 }

@@ -1,0 +1,45 @@
+-- Cell by cell, the search goes on behind each that may be written.
+-- Assumes nothing.
+use mathlib.Core.Path.{◌∙◌}
+use Rattle.cells.specs.Rows as rows
+use Rattle.search.proofs.Sections.{no_address_lem}
+use Rattle.search.proofs.Lowest.{behind, among, told}
+use Rattle.search.proofs.target_writable.Goals as goal
+
+pub writable-requires-clause-row : goal.writable-requires-clause-row
+writable-requires-clause-row c = (_, rows.alpha_constants_row)
+
+pub returns-in_err-writable : goal.returns-in_err-writable
+returns-in_err-writable c = record {
+  lowest = λ g given. told c.from_residual.result c.from_residual.ensures.1 ∙ among g _ 0 1 3 (c.in_err-writable.ensures.lowest g 0 rows.alpha_constants_row no_address_lem);
+}
+
+pub writable-requires-2-clause-row : goal.writable-requires-2-clause-row
+writable-requires-2-clause-row c = (_, rows.target_address)
+
+pub returns-in_err-writable-2 : goal.returns-in_err-writable-2
+returns-in_err-writable-2 c = record {
+  lowest = λ g given. told c.from_residual-in_err-writable-2.result c.from_residual-in_err-writable-2.ensures.1 ∙ behind g _ 0 1 3 (c.in_ok-writable.ensures.lowest g 0 rows.alpha_constants_row no_address_lem)
+      (among g _ 1 1 2 (c.in_err-writable-2.ensures.lowest g 1 rows.target_address (λ _. given)));
+}
+
+pub writable-requires-3-clause-row : goal.writable-requires-3-clause-row
+writable-requires-3-clause-row c = (_, rows.location)
+
+pub returns-in_err-writable-3 : goal.returns-in_err-writable-3
+returns-in_err-writable-3 c = record {
+  lowest = λ g given. told c.from_residual-in_err-writable-3.result c.from_residual-in_err-writable-3.ensures.1 ∙ behind g _ 0 1 3 (c.in_ok-writable.ensures.lowest g 0 rows.alpha_constants_row no_address_lem)
+      (behind g _ 1 1 2 (c.in_ok-writable-2.ensures.lowest g 1 rows.target_address (λ _. given))
+      (among g _ 2 1 1 (c.in_err-writable-3.ensures.lowest g 0 rows.location no_address_lem)));
+}
+
+pub writable-requires-4-clause-row : goal.writable-requires-4-clause-row
+writable-requires-4-clause-row c = (_, rows.format)
+
+pub returns : goal.returns
+returns c = record {
+  lowest = λ g given. behind g _ 0 1 3 (c.in_ok-writable.ensures.lowest g 0 rows.alpha_constants_row no_address_lem)
+      (behind g _ 1 1 2 (c.in_ok-writable-2.ensures.lowest g 1 rows.target_address (λ _. given))
+      (behind g _ 2 1 1 (c.in_ok-writable-3.ensures.lowest g 0 rows.location no_address_lem)
+      (c.writable-4.ensures.lowest g 0 rows.format no_address_lem)));
+}
