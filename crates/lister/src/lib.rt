@@ -135,7 +135,7 @@ fn put_lines_video(pairs: &[u8; 512], state: &[u8], out: &mut [u8], start: usize
     }
 }
 
-// Lists the marked cells of a state: 1 if the state is not well-formed, 11 if the output is too short, else 0 and the bytes written.
+// Lists the marked cells of a state, and tells the bytes written: refused if the state is not well-formed, and if the output is too short.
 pub fn list(state: &[u8], out: &mut [u8]) -> Answer
     ensures answer { answer_in result ≡ list_answer (words_of state.now) (length out.old) }
     ensures bytes { out.new ≡ list_leaves (words_of state.now) out.old }

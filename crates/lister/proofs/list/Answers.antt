@@ -41,7 +41,7 @@ put_head-requires c = let few-here = few (words_of c.args.state.now) in record {
 pub returns-then-not-well_formed : goal.returns-then-not-well_formed
 returns-then-not-well_formed c =
     let both = by_bad_state (words_of c.args.state.now) c.args.out.now (sym c.if-not-well_formed.ensures.formed) in
-    record { answer = both.0; bytes = both.1 }
+    record { answer = rw c.at.ensures.at both.0; bytes = both.1 }
 
 pub marked_between-in_3d-requires : goal.marked_between-in_3d-requires
 marked_between-in_3d-requires c = record { inside = omega arith; whole = whole _ c.if-not-well_formed.ensures.formed refl }
@@ -54,7 +54,7 @@ returns-then-out-need c =
     let st = words_of c.args.state.now in
     let need = listing_length st _ _ _ c.marked_between-in_3d.ensures.count c.marked_between-in_video.ensures.count c.decimal_length-digits.ensures.length.0 in
     let both = by_no_room st c.args.out.now (sym c.if-not-well_formed.ensures.formed) (omega arith) in
-    record { answer = both.0; bytes = both.1 }
+    record { answer = rw c.at-then-out-need.ensures.at both.0; bytes = both.1 }
 
 pub put_lines_3d-requires : goal.put_lines_3d-requires
 unfolding digit_pairs hex digit from
