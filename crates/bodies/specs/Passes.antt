@@ -1,6 +1,6 @@
 -- What reading words of one packet's body comes to: how far they are fine, and the state with what those words write.
 -- Assumes nothing.
-use Rattle.std.specs.Prelude.{List, [], ◌∷◌, ℕ, zero, suc, ◌/◌, ◌≤◌, length}
+use Rattle.std.specs.Prelude.{◌≡◌, List, [], ◌∷◌, ℕ, zero, suc, ◌/◌, ◌≤◌, length}
 use Rattle.meaning.specs.declared.Kind.{Kind}
 use Rattle.meaning.specs.Grants.{Terms}
 use Rattle.meaning.specs.State.{apply_all, write_to}
@@ -24,6 +24,10 @@ passed r p st = record { reason = r; place = p; state = st }
 -- without the state
 abbrev pub answer_of : Passed → Answer
 answer_of p = answer p.reason p.place
+
+-- an answer and a state are what was read comes to
+abbrev pub Comes : Answer → List ℕ → Passed → Type 0
+Comes a left p = (a ≡ answer_of p) × (left ≡ p.state)
 
 -- a word's reason, at its place and with the state as it is there; where nothing speaks against it, what comes after
 abbrev pub or_else : ℕ → ℕ → List ℕ → Passed → Passed
