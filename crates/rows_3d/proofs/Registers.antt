@@ -1,14 +1,17 @@
 -- The registers at the cells that the functions are for: each row of the table has its own (meaning/proofs/Table).
 -- Assumes nothing.
-use mathlib.Core.Path.{subst}
+use mathlib.Core.Path.{◌≡◌, subst}
+use mathlib.Core.Bool.{Bool}
 use mathlib.Core.List.{map}
 use Prim.Native.Nat.{ℕ, zero, suc, ◌+◌, ◌*◌, ◌-◌, ◌/◌, ◌≤◌, ◌<◌}
 use native.Mathlib.Omega.{arith}
 use native.Mathlib.Decide.{ℕ_discrete}
 use Rattle.laws.specs.Lists.{All, from}
 use Rattle.laws.proofs.Lists.{all_split, one_of_two}
-use Rattle.meaning.specs.Registers.{any, no_address, Section, of_3d, target_group, stage, stage_section, sample_section, sections_3d, sections_video, sections, register_at}
-use Rattle.meaning.proofs.Columns.{Has}
+use Rattle.meaning.specs.Registers.{cell, no_address, any, alpha_constants, location, format_byte, levels, filters, mapping, Section, of_3d, target_group, stage, sample, stage_section, sample_section, sections_3d, sections_video, sections, register_at}
+use Rattle.meaning.specs.Grants.{Terms}
+use Rattle.meaning.specs.Reader.{value_reason}
+use Rattle.meaning.proofs.Columns.{Has, columns}
 use Rattle.meaning.proofs.Table.{OwnIn, own_registers}
 
 -- the table has for each cell of a section the row's own register
@@ -45,3 +48,41 @@ at_stage c low high =
 
 pub own_sample : (n : ℕ) → n < 16 → Owned (sample_section n)
 own_sample n h = by_number sample_section 0 16 series.1 n (omega arith) (omega arith)
+
+-- ---- what the rows without an address ask of a value
+
+-- a cell's register asks for a mask and a rule
+abbrev Asks : Terms → ℕ → ℕ → ℕ → (ℕ → Bool) → Type 0
+Asks g v c mask rule = value_reason g (register_at (cell c)) v ≡ columns g (record { width = 24; clear = mask; values = rule; holds = no_address }) v
+
+module _ (g : Terms) (v : ℕ) where
+  pub alpha_constants_row : Asks g v 0 0x800800 alpha_constants
+  unfolding value_reason target_group
+  alpha_constants_row = rw own_target.0
+
+  pub location_row : Asks g v 2 0x0FFFFF location
+  unfolding value_reason target_group
+  location_row = rw own_target.1.1.0
+
+  pub format_row : Asks g v 3 0x006FFF format_byte
+  unfolding value_reason target_group
+  format_row = rw own_target.1.1.1.0
+
+  pub stage_row : (c : ℕ) → 4 ≤ c → c < 36 → Asks g v c 0xFF0000 any
+  unfolding value_reason
+  stage_row c low high = rw (at_stage c low high)
+
+  module _ (n : ℕ) (h : n < 16) where
+    pub levels_row : Asks g v (36 + 3 * n) 0xC00000 levels
+    unfolding value_reason sample
+    levels_row = rw (own_sample n h).0
+
+    pub filters_row : Asks g v (37 + 3 * n) 0xE00000 filters
+    unfolding value_reason sample
+    filters_row = rw (own_sample n h).1.0
+
+    pub mapping_row : Asks g v (38 + 3 * n) 0xC0FE00 mapping
+    unfolding value_reason sample
+    mapping_row = rw (own_sample n h).1.1.0
+
+pub ruleset rows = (alpha_constants_row, location_row, format_row, stage_row, levels_row, filters_row, mapping_row)

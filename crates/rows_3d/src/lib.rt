@@ -1,6 +1,6 @@
 // What speaks against a value of a 3D register: a function for each row of the table. Which register a word is for
 // is the callers' matter.
-#![tactic(auto)]
+#![tactic(auto, using(crate::proofs::Registers::rows), unfolding(meaning::specs::Reader::unless))]
 
 ghost use Rattle.std.specs.Prelude.{◌≡◌, ℕ, ◌+◌, ◌*◌, ◌≤◌, ◌<◌, ◌^◌};
 ghost use Rattle.meaning.specs.Registers.{cell, register_at};
@@ -15,7 +15,6 @@ use rules::{alpha_constants, format_byte, location, must_be_clear};
 use sampling::{filters, levels, mapping};
 
 // 8 where the value rule is broken. It is asked once the mask has been: so no value is looked at twice.
-#[tactic(auto, unfolding(meaning::specs::Reader::unless))]
 fn ruled_reason(obeyed: bool) -> Result<(), Reason>
     ensures reason { reason_in result ≡ unless obeyed bad_value success }
 {
