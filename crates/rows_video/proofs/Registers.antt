@@ -1,12 +1,15 @@
 -- The registers at the cells that the functions are for: each row of the table has its own (meaning/proofs/Table).
 -- Assumes nothing.
 use mathlib.Core.Path.{◌≡◌}
-use Prim.Native.Nat.{ℕ, ◌≤◌, ◌<◌}
+use mathlib.Core.Bool.{Bool}
+use Prim.Native.Nat.{ℕ, ◌+◌, ◌≤◌, ◌<◌}
 use native.Mathlib.Omega.{arith}
 use Rattle.laws.specs.Lists.{All}
 use Rattle.laws.proofs.Lists.{all_split, one_of_two}
-use Rattle.meaning.specs.Registers.{any, no_address, alpha_select, Row, overlay, scaler, sections_3d, sections_video, sections, register_at}
-use Rattle.meaning.proofs.Columns.{Has}
+use Rattle.meaning.specs.Registers.{cell, any, no_address, alpha_select, Row, overlay, scaler, sections_3d, sections_video, sections, register_at}
+use Rattle.meaning.specs.Grants.{Terms}
+use Rattle.meaning.specs.Reader.{value_reason}
+use Rattle.meaning.proofs.Columns.{Has, columns}
 use Rattle.meaning.proofs.Table.{OwnIn, own_registers}
 use Rattle.rows_video.specs.Scalers.{Scaler, first, second}
 
@@ -32,3 +35,37 @@ pub own_scaler : (c role : ℕ) → Scaler c role → All Own (scaler c 0 role)
 unfolding scaler
 own_scaler _ _ first = owned.1.0
 own_scaler _ _ second = owned.1.1.0
+
+-- ---- what the rows without an address ask of a value
+
+-- a cell's register asks for a mask and a rule
+abbrev Asks : Terms → ℕ → ℕ → ℕ → (ℕ → Bool) → Type 0
+Asks g v c mask rule = value_reason g (register_at (cell c)) v ≡ columns g (record { width = 32; clear = mask; values = rule; holds = no_address }) v
+
+module _ (g : Terms) (v : ℕ) where
+  pub overlay_row : (c : ℕ) → 84 ≤ c → c < 86 → Asks g v c 0xF800F800 any
+  unfolding value_reason
+  overlay_row c low high = rw (at_overlay c low high)
+
+  pub alpha_select_row : Asks g v 86 0xFFE000FC alpha_select
+  unfolding value_reason
+  alpha_select_row = rw at_alpha_select
+
+  module _ (c role : ℕ) (s : Scaler c role) where
+    pub deinterlace_row : Asks g v c 0x76FFE0FE any
+    unfolding value_reason scaler
+    deinterlace_row = rw (own_scaler c role s).0
+
+    pub sub_picture_row : Asks g v (c + 1) 0x6FFE0000 any
+    unfolding value_reason scaler
+    sub_picture_row = rw (own_scaler c role s).1.0
+
+    pub destination_stride_row : Asks g v (c + 4) 0xFFFFC00F any
+    unfolding value_reason scaler
+    destination_stride_row = rw (own_scaler c role s).1.1.1.1.0
+
+    pub source_stride_row : Asks g v (c + 5) 0x0DECC00F any
+    unfolding value_reason scaler
+    source_stride_row = rw (own_scaler c role s).1.1.1.1.1.0
+
+pub ruleset rows = (overlay_row, alpha_select_row, deinterlace_row, sub_picture_row, destination_stride_row, source_stride_row)

@@ -1,6 +1,6 @@
 // What speaks against a value of a video register: a function for each row of the table. Which register a word is
 // for is the callers' matter.
-#![tactic(auto)]
+#![tactic(auto, using(crate::proofs::Registers::rows), unfolding(meaning::specs::Reader::unless))]
 
 ghost use Rattle.std.specs.Prelude.{◌≡◌, ℕ, ◌+◌, ◌*◌, ◌≤◌, ◌<◌, eqb};
 ghost use Rattle.std.specs.Int.Bits.{bit_and};
