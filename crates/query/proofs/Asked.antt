@@ -1,48 +1,21 @@
--- What the query answers, step by step: of a value, of a cell, of a call.
+-- What the query answers, step by step: of a cell, of a call.
 -- Assumes nothing.
-use Rattle.std.specs.Prelude.{Option, None}
+use Rattle.std.specs.Prelude.{Option, Some, None, unwrap_or}
 use mathlib.Core.Path.{◌≡◌, refl, sym, ap, ◌∙◌}
 use mathlib.Core.Logic.{◌≢◌}
 use mathlib.Core.Bool.{true, false}
 use mathlib.Core.List.{List}
-use Prim.Native.Nat.{ℕ, zero, suc, ◌*◌, ◌≤◌, ◌<◌}
-use native.Mathlib.Omega.{arith}
+use Prim.Native.Nat.{ℕ, zero, suc, ◌≤◌, ◌<◌}
 use borrow.Author.Tests.{lt-ltb, le-ltb, ne_eqb}
 use Rattle.meaning.specs.declared.Cell.{Cell}
 use Rattle.meaning.specs.declared.Memory.{Memory}
 use Rattle.meaning.specs.declared.Memory.TheVariants.{Either, Only}
-use Rattle.meaning.specs.Words.{bits}
 use Rattle.meaning.specs.Registers.{cells, cell, target_group, sections, register_among, register_in, register_at}
-use Rattle.meaning.specs.Grants.{Terms, most_grants, grants_of, terms_of, grants_fine, which}
+use Rattle.meaning.specs.Grants.{Terms, most_grants, terms_of, grants_fine, which}
 use Rattle.meaning.specs.State.{value_at, mark_at, is_mark, well_formed}
 use Rattle.meaning.specs.Pair.{target_cell, memory_of, target_of, looked_at}
 use Rattle.meaning.specs.Answers.{bad_state, bad_grants, success, answer}
-use Rattle.meaning.specs.Query.{which_held, which_stored, which_at, place_of, query_answer}
-use Rattle.grants.specs.declared.Part.{Part}
-use Rattle.grants.specs.Kept.{Bounded, Names, which_in, part_of}
-use Rattle.query.specs.Held.{held_as}
-
--- ---- a value
-
--- no part ends past the room
-pub part_inside : (bounds : List ℕ) → Bounded bounds → (role : ℕ) → role < 4 → {part : Part} → part ≡ part_of bounds role → part.to ≤ most_grants
-part_inside bounds inside role high e = rw e (inside role high)
-
--- in the register of a cell, whose role is known
-module _ (c : Cell) (v : ℕ) (role : ℕ) (held : (v : ℕ) → (register_at c).holds v ≡ held_as role v) (ws : List ℕ) where
-  pub stored_none : role ≡ 0 → None ≡ which_stored (terms_of ws) Either c v
-  stored_none e = rw (held v, e)
-
-  -- what the test tells of the address, in the part of the role
-  pub stored_scaler : (starts lasts numbers bounds : List ℕ) → Names (terms_of ws) starts lasts numbers bounds → {part : Part} → part ≡ part_of bounds role → role < 4
-      → role ≢ 0 → {a : ℕ} {w : Option ℕ} → a ≡ bits 28 4 v * 16 → w ≡ which_in starts lasts numbers part Either a → w ≡ which_stored (terms_of ws) Either c v
-  stored_scaler starts lasts numbers bounds names {part} own high n {a} {w} same told =
-      let here : w ≡ which (grants_of ws) Either role (bits 28 4 v * 16) = told ∙ rw (own, same) (sym (names Either role (omega arith) high (bits 28 4 v * 16))) in
-      here ∙ rw (held v) (scaler_role role n)
-    where
-      scaler_role : (r : ℕ) → r ≢ 0 → which (grants_of ws) Either r (bits 28 4 v * 16) ≡ which_held (terms_of ws) Either (held_as r v)
-      scaler_role zero n = absurd (n refl)
-      scaler_role (suc r) n = refl
+use Rattle.meaning.specs.Query.{which_stored, which_at, place_of, query_answer}
 
 -- ---- a cell
 
@@ -85,6 +58,11 @@ module _ (g : Terms) (st : List ℕ) (c : Cell) where
 
 -- ---- a call
 
+-- the number of no grant, where none is told
+place_of_lem : (w : Option ℕ) → place_of w ≡ unwrap_or w most_grants
+place_of_lem None = refl
+place_of_lem (Some n) = refl
+
 module _ (st grants : List ℕ) (c : Cell) where
   pub state_refused : well_formed st ≡ false → answer bad_state 0 ≡ query_answer st grants c
   unfolding query_answer
@@ -95,6 +73,6 @@ module _ (st grants : List ℕ) (c : Cell) where
     unfolding query_answer
     grants_refused f = rw (e, f)
 
-    pub told : grants_fine grants ≡ true → {w : Option ℕ} {p : ℕ} → w ≡ which_at (terms_of grants) st c → p ≡ place_of w → answer success p ≡ query_answer st grants c
+    pub told : grants_fine grants ≡ true → {w : Option ℕ} {p : ℕ} → w ≡ which_at (terms_of grants) st c → p ≡ unwrap_or w most_grants → answer success p ≡ query_answer st grants c
     unfolding query_answer
-    told f w p = rw (e, f, p, w)
+    told f {w} is p = rw (e, f, p, sym (place_of_lem w), is)

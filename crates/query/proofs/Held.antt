@@ -1,5 +1,6 @@
 -- Which cells other than cell 1 hold an address: six of them, and no other number.
 -- Assumes nothing.
+use Rattle.std.specs.Prelude.{Option, Some, None}
 use mathlib.Core.Path.{◌≡◌, refl, ap}
 use mathlib.Core.Logic.{◌≢◌}
 use mathlib.Core.List.{List, [], ◌∷◌, map}
@@ -16,32 +17,32 @@ use Rattle.rows_video.proofs.Registers.{own_scaler}
 use Rattle.query.specs.Held.{held_as}
 
 -- what the register of a cell holds is known by a role
-abbrev pub HeldBy : ℕ → ℕ → Type 0
+abbrev pub HeldBy : ℕ → Option ℕ → Type 0
 HeldBy c role = (v : ℕ) → (register_at (cell c)).holds v ≡ held_as role v
 
 -- by another name
-pub same_held : (x k role : ℕ) → x ≡ k → HeldBy k role → HeldBy x role
+pub same_held : (x k : ℕ) (role : Option ℕ) → x ≡ k → HeldBy k role → HeldBy x role
 same_held x k role e h = rw e h
 
 -- ---- the six
 
--- of either scaler, whose role is n + 2
-module _ (c n : ℕ) (s : Scaler c (suc (suc n))) where
-  pub first_held : HeldBy (c + 2) (suc (suc n))
+-- of either scaler
+module _ (c role : ℕ) (s : Scaler c role) where
+  pub first_held : HeldBy (c + 2) (Some role)
   unfolding scaler
-  first_held v = ap (λ (r : Register). r.holds v) (own_scaler c (suc (suc n)) s).1.1.0
+  first_held v = ap (λ (r : Register). r.holds v) (own_scaler c role s).1.1.0
 
-  pub second_held : HeldBy (c + 3) (suc (suc n))
+  pub second_held : HeldBy (c + 3) (Some role)
   unfolding scaler
-  second_held v = ap (λ (r : Register). r.holds v) (own_scaler c (suc (suc n)) s).1.1.1.0
+  second_held v = ap (λ (r : Register). r.holds v) (own_scaler c role s).1.1.1.0
 
-  pub third_held : HeldBy (c + 6) (suc (suc n))
+  pub third_held : HeldBy (c + 6) (Some role)
   unfolding scaler
-  third_held v = ap (λ (r : Register). r.holds v) (own_scaler c (suc (suc n)) s).1.1.1.1.1.1.0
+  third_held v = ap (λ (r : Register). r.holds v) (own_scaler c role s).1.1.1.1.1.1.0
 
 -- the first two stand side by side
-pub first_two_held : (c n : ℕ) → Scaler c (suc (suc n)) → (k : ℕ) → c + 2 ≤ k → k < c + 4 → HeldBy k (suc (suc n))
-first_two_held c n s k low high = one_of_two (λ (i : ℕ). HeldBy i (suc (suc n))) (c + 2) (c + 3) k (first_held c n s) (second_held c n s) (omega arith) low (omega arith)
+pub first_two_held : (c role : ℕ) → Scaler c role → (k : ℕ) → c + 2 ≤ k → k < c + 4 → HeldBy k (Some role)
+first_two_held c role s k low high = one_of_two (λ (i : ℕ). HeldBy i (Some role)) (c + 2) (c + 3) k (first_held c role s) (second_held c role s) (omega arith) low (omega arith)
 
 -- ---- the others
 
@@ -102,7 +103,7 @@ module _ (c : Cell) where
   quiet_overlay = (λ e v. refl, (λ e v. refl, (λ e v. refl, tt)))
 
 -- a number that is none of the seven
-pub none_held : (c : ℕ) → c ≢ 1 → c ≢ 89 → c ≢ 90 → c ≢ 93 → c ≢ 96 → c ≢ 97 → c ≢ 100 → HeldBy c 0
+pub none_held : (c : ℕ) → c ≢ 1 → c ≢ 89 → c ≢ 90 → c ≢ 93 → c ≢ 96 → c ≢ 97 → c ≢ 100 → HeldBy c None
 unfolding register_at sections
 none_held c a b d e f g h =
     quiet_in (cell c) sections

@@ -1,7 +1,7 @@
 // The query: which grant admits the address in a cell of a state.
 #![tactic(auto)]
 
-ghost use Rattle.std.specs.Prelude.{◌≡◌, ◌≢◌, List, ℕ, ◌<◌, T, length, IfSome};
+ghost use Rattle.std.specs.Prelude.{◌≡◌, ◌≢◌, List, ℕ, ◌<◌, ◌≤◌, T, length, IfSome};
 ghost use Rattle.meaning.specs.declared.Memory.TheVariants.{Either};
 ghost use Rattle.meaning.specs.Words.{words_of};
 ghost use Rattle.meaning.specs.Registers.{register_at};
@@ -19,7 +19,7 @@ use meaning::{Answer, CELLS, Cell, MOST_GRANTS, Memory, Reason, TARGET_CELL};
 // elsewhere.
 fn role_of(cell: Cell) -> Option<usize>
     ensures role { cell.0 ≢ 1 → (v : ℕ) → (register_at cell).holds v ≡ held_as result v }
-    ensures low { IfSome result (λ role. role < 4) }
+    ensures known { IfSome result (λ role. (1 ≤ role) × (role < 4)) }
 {
     match cell.0 {
         89 | 90 | 93 => Some(2),
@@ -33,15 +33,12 @@ fn which_stored(cell: Cell, value: u32, kept: &Kept<'_>) -> Option<usize>
     ensures stored { (ws : List ℕ) → IsNamed (terms_of ws) kept.now → cell.0 ≢ 1 → result ≡ which_stored (terms_of ws) Either cell value }
 {
     let role = role_of(cell)?;
-    kept.part_of(role).which(Memory::Either, rows_video::scaler_address(value))
+    kept.part_of(role)
+        .which(Memory::Either, rows_video::scaler_address(value))
 }
 
 // The same for a cell of a state, if there is such a cell and it is marked.
-fn which_at(
-    state: &[u8],
-    cell: Cell,
-    kept: &Kept<'_>,
-) -> Option<usize>
+fn which_at(state: &[u8], cell: Cell, kept: &Kept<'_>) -> Option<usize>
     requires whole { length (words_of state.now) ≡ state_words }
     ensures at { (ws : List ℕ) → T (grants_fine ws) → IsNamed (terms_of ws) kept.now → result ≡ which_at (terms_of ws) (words_of state.now) cell }
 {
@@ -54,12 +51,11 @@ fn which_at(
     if cell.0 == TARGET_CELL {
         return pair::which(state, &kept.part_of(1));
     }
-    let value = states::value(state, cell);
-    which_stored(cell, value, kept)
+    which_stored(cell, states::value(state, cell), kept)
 }
 
-// Which grant admits the address in a cell: 1 if the state is not well-formed, 2 if the grant list breaks its rules; else 0 at the number of
-// the grant, or at 64 where there is none. Bytes past the last whole word of a buffer count for nothing.
+// The number of the grant that admits the address in a cell, or 64 where none does: refused if the state is not well-formed, and if the grant
+// list breaks its rules. Bytes past the last whole word of a buffer count for nothing.
 pub fn which_grant(state: &[u8], grants: &[u8], cell: Cell) -> Answer
     ensures answer { answer_in result ≡ query_answer (words_of state.now) (words_of grants.now) cell }
 {
@@ -80,6 +76,5 @@ pub fn which_grant(state: &[u8], grants: &[u8], cell: Cell) -> Answer
         numbers: &numbers,
         bounds: &bounds,
     };
-    // 64, which no grant has, where there is none.
     Ok(which_at(state, cell, &kept).unwrap_or(MOST_GRANTS))
 }

@@ -17,14 +17,16 @@ returns-then-mark-eq0 c = record { at = λ ws fine names. at_unmarked (terms_of 
 pub returns-then-cell-eq-TARGET_CELL : goal.returns-then-cell-eq-TARGET_CELL
 returns-then-cell-eq-TARGET_CELL c = record {
   at = λ ws fine names.
-      let told = which_is ws fine c.args.starts.now c.args.lasts.now c.args.numbers.now c.args.bounds.now names (words_of c.args.state.now) in
+      let k = c.args.kept.now in
+      let told = which_is ws fine k.starts.now k.lasts.now k.numbers.now k.bounds.now names (words_of c.args.state.now) in
+      let its = c.part_of.ensures.role in
       at_target (terms_of ws) (words_of c.args.state.now) c.args.cell (omega arith) c.mark.ensures.mark c.if-mark-eq0.false c.if-cell-eq-TARGET_CELL.true
-      (c.which.ensures.which ∙ rw c.part_of-part.ensures.part told);
+      (c.which.ensures.which ∙ rw (its.starts, its.lasts, its.numbers, its.part) told);
 }
 
 pub returns : goal.returns
 returns c = record {
   at = λ ws fine names.
       let other = c.if-cell-eq-TARGET_CELL.false in
-      at_other (terms_of ws) (words_of c.args.state.now) c.args.cell (omega arith) c.mark.ensures.mark c.if-mark-eq0.false other c.value-value.ensures.value (c.which_stored.ensures.stored ws names other);
+      at_other (terms_of ws) (words_of c.args.state.now) c.args.cell (omega arith) c.mark.ensures.mark c.if-mark-eq0.false other c.value.ensures.value (c.which_stored.ensures.stored ws names other);
 }
