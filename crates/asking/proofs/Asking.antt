@@ -14,16 +14,15 @@ use Rattle.meaning.specs.Registers.{register_at, find_video}
 use Rattle.meaning.specs.Grants.{Terms}
 use Rattle.meaning.specs.Batch.{allowed, named}
 use Rattle.meaning.specs.Positions.{kind_of, after, next_kind, next_left, goes, carries, write_at}
-use Rattle.meaning.specs.Answers.{bad_count, bad_setting}
+use Rattle.meaning.specs.declared.Reason.{Reason}
+use Rattle.meaning.specs.Answers.{bad_count, bad_setting, success, number}
 use Rattle.meaning.specs.Reader.{unless, value_reason, header_reason, word_reason, judge}
 use Rattle.headers.specs.declared.Group.{Group}
 use Rattle.headers.specs.Told.{Runs, cell_in, Leads}
-use Rattle.judging.specs.declared.Judged.{Judged}
-use Rattle.judging.specs.Judged.{judged_in}
+use Rattle.judging.specs.Judged.{reason_for, cell_for}
 use Rattle.judging.proofs.Judging.{cell_judged}
-use Rattle.bodies.proofs.Bodies.{parameter_asked}
-use Rattle.asking.specs.declared.Asked.{Asked}
-use Rattle.asking.specs.Asked.{under_of, stopped, taken_as, moved_on, passed, unless_stopped, bound_for, asked_in}
+use Rattle.bodies.proofs.Bodies.{refused, parameter_asked}
+use Rattle.asking.specs.Asked.{Asked, under_of, stopped, taken_as, moved_on, passed, unless_stopped, bound_for, asked_in}
 use Rattle.asking.proofs.Offsets.{run_offset}
 
 -- ---- a reason that is 0, and one that is not
@@ -50,9 +49,9 @@ module _ (g : Terms) (kind : Kind) (k w : ℕ) where
 
 module _ (g : Terms) (kind : Kind) (w : ℕ) where
   -- one that is refused,
-  pub header_refused : (r : ℕ) → header_reason w ≡ r → (r ≡ 0 → ⊥) → stopped r ≡ asked_in g kind 0 w
+  pub header_refused : (r : Reason) → header_reason w ≡ number r → stopped (number r) ≡ asked_in g kind 0 w
   unfolding judge
-  header_refused r e n = refused_by_lem g kind 0 w r e n
+  header_refused r e = refused_by_lem g kind 0 w (number r) e (refused r)
 
   -- one that opens a body of a kind,
   pub header_taken : header_reason w ≡ 0 → {next : Kind} → kind_of w ≡ next → {n u : ℕ} → n ≡ count w → u ≡ under_of next → moved_on n u ≡ asked_in g kind 0 w
@@ -78,22 +77,22 @@ module _ (g : Terms) (k w : ℕ) where
 
 -- ---- a parameter of a group, from what the code reads of it and how that is judged
 
-module _ {G : Group} (a : SubAddress) (d : ℕ) {j : Judged} (g : Terms) (s k w : ℕ) (leads : Leads s G) (ea : a ≡ sub_address w) (ed : d ≡ data24 w)
-    (told : j ≡ judged_in g (cell_in G a) d) where
-  reason_of : word_reason g (Parameter s) w ≡ j.reason
-  reason_of = sym (parameter_asked a d g s w leads ea ed told)
+module _ {G : Group} (a : SubAddress) (d : ℕ) (g : Terms) (s k w : ℕ) (leads : Leads s G) (ea : a ≡ sub_address w) (ed : d ≡ data24 w)
+    {v : ℕ} (told : v ≡ reason_for g (cell_in G a) d) where
+  asked_is : word_reason g (Parameter s) w ≡ v
+  asked_is = sym (parameter_asked a d g s w leads ea ed told)
 
   -- one that something speaks against,
-  pub parameter_refused : (j.reason ≡ 0 → ⊥) → stopped j.reason ≡ asked_in g (Parameter s) (suc k) w
+  pub parameter_refused : (r : Reason) → v ≡ number r → stopped (number r) ≡ asked_in g (Parameter s) (suc k) w
   unfolding judge
-  parameter_refused n = refused_by_lem g (Parameter s) (suc k) w j.reason reason_of n
+  parameter_refused r e = refused_by_lem g (Parameter s) (suc k) w (number r) (asked_is ∙ e) (refused r)
 
   -- and one that writes the cell that was found
-  pub parameter_taken : j.reason ≡ 0 → taken_as k s j.cell d ≡ asked_in g (Parameter s) (suc k) w
+  pub parameter_taken : v ≡ success → {c : Cell} → c ≡ cell_for (cell_in G a) → taken_as k s c d ≡ asked_in g (Parameter s) (suc k) w
   unfolding judge next_kind next_left after write_at goes carries
-  parameter_taken z =
-      let at : named s w ≡ Some j.cell = rw (sym ea) (leads.found a ∙ cell_judged g d (cell_in G a) told z) in
-      taken g (Parameter s) (suc k) w (reason_of ∙ z) (rw (at, ed))
+  parameter_taken z {c} ec =
+      let at : named s w ≡ Some c = rw (sym ea) (leads.found a ∙ cell_judged g d (cell_in G a) told ec z) in
+      taken g (Parameter s) (suc k) w (asked_is ∙ z) (rw (at, ed))
 
 -- ---- a word for a video register
 

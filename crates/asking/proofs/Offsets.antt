@@ -7,6 +7,8 @@ use native.Mathlib.Omega.{arith}
 use native.Mathlib.Decide.{ℕ_discrete}
 use Rattle.meaning.specs.declared.Cell.{Cell}
 use Rattle.meaning.specs.declared.VideoOffset.{VideoOffset}
+use Rattle.meaning.specs.declared.Reason.{Reason}
+use Rattle.meaning.specs.Answers.{number}
 use Rattle.meaning.specs.declared.Kind.{Kind}
 use Rattle.meaning.specs.declared.Kind.TheVariants.{Setting, Video}
 use Rattle.meaning.specs.Words.{count, offset, video_offset}
@@ -18,6 +20,7 @@ use Rattle.meaning.proofs.Packets.{never_both}
 use Rattle.meaning.proofs.Stretches.{kind_3d, kind_video}
 use Rattle.registers.proofs.Names.{named_video}
 use Rattle.headers.specs.Told.{Runs}
+use Rattle.bodies.proofs.Bodies.{refused}
 
 -- no word is both a setting and one of a run
 kinds_apart : {k : Kind} {o : VideoOffset} → k ≡ Setting → k ≡ Video o → ⊥
@@ -56,8 +59,8 @@ module _ (u : ℕ) {o : ℕ} (e : o ≡ offset u) where
   same_offset = ap (λ (x : ℕ). record { 0 = x }) (omega arith)
 
   -- one that is refused has no video register's offset,
-  pub none_refused : {r : ℕ} → header_reason (single o) ≡ r → (r ≡ 0 → ⊥) → find_video (video_offset u) ≡ None
-  none_refused q n = rw (← same_offset) (none_at _ (λ c f. n (sym q ∙ (opens_run (single o) one_word f).0)))
+  pub none_refused : (r : Reason) → header_reason (single o) ≡ number r → find_video (video_offset u) ≡ None
+  none_refused r q = rw (← same_offset) (none_at _ (λ c f. refused r (sym q ∙ (opens_run (single o) one_word f).0)))
 
   -- nor has one that opens a setting
   pub none_setting : kind_of (single o) ≡ Setting → find_video (video_offset u) ≡ None

@@ -1,27 +1,23 @@
 -- A role's part of the grants, by bounds that may be any bytes.
 -- Assumes nothing.
-use mathlib.Core.Path.{◌≡◌}
-use mathlib.Core.List.{List}
-use Prim.Native.Nat.{ℕ, ◌+◌, min}
-use lib.ListN.{get_or}
-use Rattle.meaning.specs.Grants.{Terms, most_grants}
-use Rattle.grants.specs.declared.Part.{Part}
-use Rattle.grants.specs.Kept.{Granting, Keeps}
+use Rattle.meaning.specs.Grants.{Terms}
+use Rattle.grants.specs.declared.RoleGrants.{RoleGrants}
+use Rattle.grants.specs.Kept.{Keeps}
+use Rattle.grants.specs.Held.{IsRole}
 use Rattle.rows_video.specs.Scalers.{Scaler, first, second}
-use Rattle.asking.specs.Asked.{part_in, capped}
+use Rattle.asking.specs.declared.Stored.{Stored}
+use Rattle.asking.specs.Asked.{capped}
+use Rattle.asking.specs.Told.{OfRole}
+use Prim.Native.Nat.{ℕ}
 
--- from where it begins and where it ends
-pub part_is : (bounds : List ℕ) (role : ℕ) {from to : ℕ} → from ≡ get_or bounds role 0 → to ≡ min (get_or bounds (4 + role) 0) most_grants → record { from = from; to = to } ≡ part_in bounds role
-part_is bounds role e f = rw (e, f)
-
-module _ (g : Terms) (starts lasts bounds : List ℕ) (k : Keeps g starts lasts (capped bounds)) {part : Part} where
+module _ (g : Terms) (s : Stored) (k : Keeps g s.starts.now s.lasts.now (capped s.bounds.now)) {r : RoleGrants} where
   -- the target's grants are kept in that role's part,
-  pub target_part : part ≡ part_in bounds 1 → Granting g 1 starts lasts part
+  pub target_part : OfRole s 1 r → IsRole g 1 r
   unfolding capped
-  target_part e = rw e k.targets
+  target_part own = rw (own.starts, own.lasts, own.part) k.targets
 
   -- and so are a scaler's
-  pub scaler_part : {c role : ℕ} → Scaler c role → part ≡ part_in bounds role → Granting g role starts lasts part
+  pub scaler_part : {c role : ℕ} → Scaler c role → OfRole s role r → IsRole g role r
   unfolding capped
-  scaler_part first e = rw e k.firsts
-  scaler_part second e = rw e k.seconds
+  scaler_part first own = rw (own.starts, own.lasts, own.part) k.firsts
+  scaler_part second own = rw (own.starts, own.lasts, own.part) k.seconds

@@ -1,6 +1,7 @@
 -- The kind of a word by the number that it stands under.
 -- Assumes nothing.
-use mathlib.Core.Path.{◌≡◌, refl}
+use Rattle.std.specs.Prelude.{Option, Some}
+use mathlib.Core.Path.{◌≡◌}
 use mathlib.Core.Bool.{true, false}
 use Prim.Native.Nat.{ℕ}
 use borrow.Author.Tests.{eq-eqb, ne_eqb}
@@ -10,24 +11,16 @@ use Rattle.meaning.specs.Words.{video_offset}
 use Rattle.meaning.specs.Grants.{Terms}
 use Rattle.meaning.specs.Batch.{allowed}
 use Rattle.headers.specs.declared.Group.{Group}
-use Rattle.headers.specs.declared.Group.TheVariants.{Target, Stage, Sample, Nothing}
 use Rattle.headers.specs.Headers.{group_of}
 use Rattle.headers.specs.Told.{Leads, Names}
 use Rattle.headers.proofs.Groups.{names}
-use Rattle.asking.specs.declared.Asked.{Asked}
-use Rattle.asking.specs.Asked.{kind_from, asked_in}
+use Rattle.asking.specs.Asked.{Asked, kind_from, asked_in}
 
 -- ---- the group of a number
 
 -- a number that names a group leads there
-pub leads : (s : ℕ) {G : Group} → G ≡ group_of s → (G ≡ Nothing → ⊥) → Leads s G
-leads s {G} e some = by G (rw (← e) at (names s)) some
-  where
-    by : (G : Group) → Names s G → (G ≡ Nothing → ⊥) → Leads s G
-    by Target n o = n
-    by (Stage c) n o = n
-    by (Sample c) n o = n
-    by Nothing n o = absurd (o refl)
+pub leads : (s : ℕ) {f : Option Group} {G : Group} → f ≡ group_of s → f ≡ Some G → Leads s G
+leads s e is = rw (← e, is) at (names s)
 
 -- ---- the kind
 

@@ -13,7 +13,6 @@ use Rattle.meaning.specs.Positions.{next_kind, next_left, write_at}
 use Rattle.meaning.specs.Answers.{success}
 use Rattle.meaning.specs.Reader.{judge}
 use Rattle.grants.specs.declared.Part.{Part}
-use Rattle.asking.specs.declared.Asked.{Asked}
 
 -- ---- positions
 
@@ -51,6 +50,14 @@ cell_of (w ∷ ws) = w.cell
 abbrev pub value_of : List Write → ℕ
 value_of [] = 0
 value_of (w ∷ ws) = w.value
+
+-- what a word is told: a reason, and if that is success the next word's position and what this one writes
+pub record Asked : Type 0 where
+  pub reason : ℕ
+  pub left : ℕ
+  pub under : ℕ
+  pub cell : Cell
+  pub value : ℕ
 
 -- a refusal: nothing else is told
 abbrev pub stopped : ℕ → Asked

@@ -77,10 +77,10 @@ all_laid values marks state c full n laid =
 -- ---- closing
 
 -- the reason of an engine, from what it is told by
-pub told_of : (e : Engine) {p : Part} {r : ℕ} → p ≡ part_in e.bounds 1
-    → r ≡ reason_behind (closing_reason e.reason e.left) (kept_in e.starts e.lasts e.numbers p (bit_of e.marked 1) (bit_of e.marked 2) (e.values ++ marks_of e.marks))
+pub told_of : (e : Engine) {starts lasts numbers : List ℕ} {p : Part} {r : ℕ} → starts ≡ e.starts → lasts ≡ e.lasts → numbers ≡ e.numbers → p ≡ part_in e.bounds 1
+    → r ≡ reason_behind (closing_reason e.reason e.left) (kept_in starts lasts numbers p (bit_of e.marked 1) (bit_of e.marked 2) (e.values ++ marks_of e.marks))
     → r ≡ reason_behind (closing_reason e.reason e.left) (pair_judged e)
-told_of e its told = told ∙ rw its
+told_of e s l n its told = told ∙ rw (s, l, n, its)
 
 module _ (kept : Bool) (s : Standing) (new st : List ℕ) {r : ℕ} (told : r ≡ reason_behind (closing_reason s.answer.reason s.left) kept) where
   -- 10 or none, and then the pair, at a place

@@ -13,8 +13,7 @@ use Rattle.meaning.specs.Registers.{cells}
 use Rattle.meaning.specs.Grants.{Terms}
 use Rattle.meaning.specs.Answers.{engine_full}
 use Rattle.meaning.specs.Engine.{most_fed}
-use Rattle.asking.specs.declared.Asked.{Asked}
-use Rattle.asking.specs.Asked.{kind_from, asked_in}
+use Rattle.asking.specs.Asked.{Asked, kind_from, asked_in}
 use Rattle.engine.specs.declared.Engine.{Engine}
 use Rattle.engine.specs.Bits.{with_mark}
 use Rattle.engine.specs.Kept.{refused_by, taken_by, told_by, unless_refused, fed_with}

@@ -10,8 +10,7 @@ use Rattle.meaning.specs.Engine.{most_fed}
 use Rattle.keeping.specs.Keeping.{Kept, kept_of}
 use Rattle.pair.specs.Marks.{cleared, restored}
 use Rattle.pair.specs.Judged.{kept_in}
-use Rattle.asking.specs.declared.Asked.{Asked}
-use Rattle.asking.specs.Asked.{kind_from, part_in, asked_in}
+use Rattle.asking.specs.Asked.{Asked, kind_from, part_in, asked_in}
 use Rattle.feeding.specs.Steps.{Standing}
 use Rattle.engine.specs.declared.Engine.{Engine}
 use Rattle.engine.specs.Bits.{bit_of, marks_of, with_mark, packed}

@@ -5,21 +5,21 @@
 ghost use Rattle.std.specs.Prelude.{◌≡◌, cond, ◌++◌, ◌≤◌, ◌<◌, ◌%◌, length, take};
 ghost use Rattle.meaning.specs.Words.{words_of};
 ghost use Rattle.meaning.specs.Registers.{cells};
-ghost use Rattle.meaning.specs.Grants.{Terms, most_grants};
+ghost use Rattle.meaning.specs.Grants.{Terms};
 ghost use Rattle.meaning.specs.State.{state_words, is_mark};
+ghost use Rattle.meaning.specs.Answers.{answer, number};
 ghost use Rattle.pair.specs.Marks.{outside, cleared, restored};
-ghost use Rattle.pair.specs.Judged.{kept_in};
+ghost use Rattle.pair.specs.Judged.{kept_by};
 ghost use Rattle.grants.specs.Kept.{Keeps};
 ghost use Rattle.asking.specs.Asked.{capped};
 ghost use Rattle.feeding.specs.Steps.{closes, leaves};
 ghost use Rattle.engine.specs.Bits.{bit_of, marks_of, with_mark, packed};
 ghost use Rattle.engine.specs.Kept.{opening_reason, byte_bounds, blank, opened_with, fed_with, closing_reason, reason_behind, handed, opening, standing, pair_judged, behind};
 
-use asking::ByteBounds;
-use grants::{BOUNDS, Bounds, Numbers, Part, Spans};
+use asking::{ByteBounds, Stored};
+use grants::{BOUNDS, Bounds, Numbers, RoleGrants, Spans};
 use meaning::{
-    Answer, BAD_GRANTS, BAD_PAIR, BAD_STATE, CELLS, Cell, ENDS_INSIDE, ENGINE_FULL, LOCATION_CELL,
-    MOST_FED, MOST_GRANTS, STATE_WORDS, SUCCESS, State, TARGET_CELL,
+    CELLS, Cell, LOCATION_CELL, MOST_FED, MOST_GRANTS, Reason, STATE_WORDS, State, TARGET_CELL,
 };
 
 // The values of the cells, and their marks, a bit each.
@@ -32,7 +32,7 @@ pub const MARK_WORDS: usize = 4;
 const MARKS_IN_WORD: usize = 32;
 
 // What is kept between words: the answer that stands, which is 0 at the number of words fed as long as none is refused; the position in the
-// packet (asking::Asked says how); the cells with all that the words fed write; the cells as they were at opening; and the grants, as
+// packet (asking::Taken says how); the cells with all that the words fed write; the cells as they were at opening; and the grants, as
 // the reader keeps them. All of it is copied with each word, so it is no larger than it must be.
 #[derive(Clone, Copy)]
 pub struct Engine {
@@ -53,7 +53,8 @@ pub struct Engine {
 // The answer at closing, and the state that is handed back.
 #[derive(Clone, Copy)]
 pub struct Closed {
-    pub answer: Answer,
+    pub reason: u32,
+    pub place: usize,
     pub state: State,
 }
 
@@ -63,7 +64,7 @@ fn set_mark(marks: &mut Marks, cell: usize)
     ensures marked { marks.new ≡ with_mark marks.old cell }
 {
     let i = cell / MARKS_IN_WORD;
-    marks[i] = marks[i] | 1u32 << cell % MARKS_IN_WORD;
+    marks[i] |= 1u32 << cell % MARKS_IN_WORD;
 }
 
 // Sets the mark of a cell that a state marks.
@@ -98,13 +99,11 @@ fn load(state: &[u8], values: &mut Values, marked: &mut Marks, marks: &mut Marks
     ensures marked { marked.new ≡ packed (words_of state.now) cells marked.old }
     ensures marks { marks.new ≡ packed (cleared (words_of state.now)) cells marks.old }
 {
-    let mut c = 0;
-    while c < CELLS {
+    for c in 0..CELLS {
         values[c] = states::value(state, Cell(c));
         let mark = states::mark(state, Cell(c));
         load_mark(marked, c, mark);
         load_mark(marks, c, outside_pair(Cell(c), mark));
-        c += 1;
     }
 }
 
@@ -144,17 +143,24 @@ fn refused(reason: u32) -> Engine
     }
 }
 
+// The number of a reason.
+fn number(reason: Reason) -> u32
+    ensures number { result ≡ number reason }
+{
+    reason as u32
+}
+
 // 1 before 2.
 fn opening_reason(formed: bool, fine: bool) -> u32
     ensures reason { result ≡ opening_reason formed fine }
 {
     if !formed {
-        return BAD_STATE;
+        return Reason::BadState as u32;
     }
     if !fine {
-        return BAD_GRANTS;
+        return Reason::BadGrants as u32;
     }
-    SUCCESS
+    0
 }
 
 // Opens an engine with copies of a state and of grants: 1 if the state is not well-formed, 2 if the grant list breaks its rules, else 0 at 0.
@@ -179,7 +185,7 @@ pub fn open(state: &[u8], grants: &[u8]) -> Engine
     load(state, &mut values, &mut marked, &mut marks);
     let bytes = byte_bounds(&bounds);
     Engine {
-        reason: SUCCESS,
+        reason: 0,
         place: 0,
         left: 0,
         under: 0,
@@ -203,30 +209,30 @@ pub fn feed(mut engine: Engine, word: u32) -> Engine
         return engine;
     }
     if MOST_FED <= engine.place {
-        engine.reason = ENGINE_FULL;
+        engine.reason = Reason::EngineFull as u32;
         return engine;
     }
-    let asked = asking::ask(
-        engine.left,
-        engine.under,
-        word,
-        &engine.starts,
-        &engine.lasts,
-        &engine.numbers,
-        &engine.bounds,
-    );
-    if asked.reason != 0 {
-        engine.reason = asked.reason;
-        return engine;
-    }
+    let stored = Stored {
+        starts: &engine.starts,
+        lasts: &engine.lasts,
+        numbers: &engine.numbers,
+        bounds: &engine.bounds,
+    };
+    let taken = match asking::ask(engine.left, engine.under, word, &stored) {
+        Ok(taken) => taken,
+        Err(reason) => {
+            engine.reason = number(reason);
+            return engine;
+        }
+    };
     engine.place += 1;
-    engine.left = asked.left;
-    engine.under = asked.under;
-    let cell = asked.cell.0;
+    engine.left = taken.left;
+    engine.under = taken.under;
+    let cell = taken.cell.0;
     if CELLS <= cell {
         return engine;
     }
-    engine.values[cell] = asked.value;
+    engine.values[cell] = taken.value;
     set_mark(&mut engine.marks, cell);
     engine
 }
@@ -247,11 +253,9 @@ fn lay<'a>(values: &'a Values, marks: &'a Marks, state: &mut State)
 {
     // A slice tells how long it is, which a reference to an array does not.
     let all = &values[..];
-    let mut c = 0;
-    while c < CELLS {
+    for c in 0..CELLS {
         state[c] = all[c];
         state[CELLS + c] = mark_in(marks, c);
-        c += 1;
     }
 }
 
@@ -263,9 +267,9 @@ fn closing_reason(reason: u32, left: u32) -> u32
         return reason;
     }
     if left != 0 {
-        return ENDS_INSIDE;
+        return Reason::EndsInside as u32;
     }
-    SUCCESS
+    0
 }
 
 // Lays out the state that closing hands back, and tells what it answers, by the reason and the position that stand: with what the words write,
@@ -277,15 +281,11 @@ fn hand_back<'a>(
     before: &'a Values,
     marks: &'a Marks,
     marked: &'a Marks,
-    starts: &'a Spans,
-    lasts: &'a Spans,
-    numbers: &'a Numbers,
-    part: Part,
+    part: &RoleGrants<'a>,
     state: &mut State,
 ) -> u32
     requires array { length state.old ≡ state_words }
-    requires inside { part.to ≤ most_grants }
-    ensures reason { result ≡ reason_behind (closing_reason reason left) (kept_in starts.now lasts.now numbers.now part (bit_of marked.now 1) (bit_of marked.now 2) (values.now ++ marks_of marks.now)) }
+    ensures reason { result ≡ reason_behind (closing_reason reason left) (kept_by part.now (bit_of marked.now 1) (bit_of marked.now 2) (values.now ++ marks_of marks.now)) }
     ensures state { state.new ≡ handed result (restored (bit_of marked.now 1) (bit_of marked.now 2) (values.now ++ marks_of marks.now)) (before.now ++ marks_of marked.now) }
 {
     let ended = closing_reason(reason, left);
@@ -296,21 +296,27 @@ fn hand_back<'a>(
     lay(values, marks, state);
     let target = mark_in(marked, TARGET_CELL);
     let location = mark_in(marked, LOCATION_CELL);
-    if !pair::kept(target, location, state, starts, lasts, numbers, part, false) {
+    if !pair::kept(target, location, state, part, false) {
         lay(before, marked, state);
-        return BAD_PAIR;
+        return Reason::BadPair as u32;
     }
-    SUCCESS
+    0
 }
 
 // Closes an engine: the reader's answer on the words fed, or the refusal that stands; and the state, changed only if all is accepted.
 pub fn close(engine: Engine) -> Closed
-    ensures answer { result.answer ≡ closes (pair_judged engine) (standing engine) }
+    ensures answer { answer result.reason result.place ≡ closes (pair_judged engine) (standing engine) }
     ensures state { result.state ≡ leaves (pair_judged engine) (standing engine) (behind engine) (opening engine) }
 {
     let mut state = [0u32; STATE_WORDS];
     let place = engine.place as usize;
-    let part = asking::part_of(&engine.bounds, 1);
+    let stored = Stored {
+        starts: &engine.starts,
+        lasts: &engine.lasts,
+        numbers: &engine.numbers,
+        bounds: &engine.bounds,
+    };
+    let part = stored.part_of(1);
     let reason = hand_back(
         engine.reason,
         engine.left,
@@ -318,14 +324,12 @@ pub fn close(engine: Engine) -> Closed
         &engine.before,
         &engine.marks,
         &engine.marked,
-        &engine.starts,
-        &engine.lasts,
-        &engine.numbers,
-        part,
+        &part,
         &mut state,
     );
     Closed {
-        answer: Answer { reason, place },
+        reason,
+        place,
         state,
     }
 }

@@ -80,7 +80,7 @@ pub fn irangelda_read(batch: &[u8], grants: &[u8], state: &mut [u8]) -> u64
     ensures bytes { state.new ≡ exported.exported_read_leaves batch.now grants.now state.old }
 {
     if !word_buffers_fine(batch, grants, state) {
-        return number(Err(Reason::BadBuffer.at(0)));
+        return Reason::BadBuffer as u64;
     }
     number(reader::read(batch, grants, state))
 }
@@ -91,7 +91,7 @@ pub fn irangelda_size(state: &[u8], grants: &[u8]) -> u64
     ensures number { result ≡ number_of (exported.exported_size state.now grants.now) }
 {
     if !two_buffers_fine(state, grants) {
-        return number(Err(Reason::BadBuffer.at(0)));
+        return Reason::BadBuffer as u64;
     }
     number(writer::size(state, grants))
 }
@@ -102,7 +102,7 @@ pub fn irangelda_write(state: &[u8], grants: &[u8], out: &mut [u8]) -> u64
     ensures bytes { out.new ≡ exported.exported_write_leaves state.now grants.now out.old }
 {
     if !word_buffers_fine(state, grants, out) {
-        return number(Err(Reason::BadBuffer.at(0)));
+        return Reason::BadBuffer as u64;
     }
     number(writer::write(state, grants, out))
 }
@@ -113,7 +113,7 @@ pub fn irangelda_list(state: &[u8], out: &mut [u8]) -> u64
     ensures bytes { out.new ≡ exported.exported_list_leaves state.now out.old }
 {
     if !text_buffers_fine(state, out) {
-        return number(Err(Reason::BadBuffer.at(0)));
+        return Reason::BadBuffer as u64;
     }
     number(lister::list(state, out))
 }
@@ -124,7 +124,7 @@ pub fn irangelda_read_listing(listing: &[u8], state: &mut [u8]) -> u64
     ensures bytes { state.new ≡ exported.exported_read_listing_leaves listing.now state.old }
 {
     if !text_buffers_fine(state, listing) {
-        return number(Err(Reason::BadBuffer.at(0)));
+        return Reason::BadBuffer as u64;
     }
     number(listing_reader::read_listing(listing, state))
 }
@@ -135,7 +135,7 @@ pub fn irangelda_which_grant(state: &[u8], grants: &[u8], cell: u32) -> u64
     ensures number { result ≡ number_of (exported.exported_which_grant state.now grants.now (registers.cell cell)) }
 {
     if !two_buffers_fine(state, grants) {
-        return number(Err(Reason::BadBuffer.at(0)));
+        return Reason::BadBuffer as u64;
     }
     number(query::which_grant(state, grants, Cell(cell as usize)))
 }

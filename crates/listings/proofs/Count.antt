@@ -1,6 +1,5 @@
 -- What the reading of the whole text tells: the texts of the first line's count, byte by byte, and then of so many lines.
 -- Assumes nothing.
-use Rattle.std.specs.Prelude.{Some}
 use mathlib.Core.Path.{◌≡◌, refl}
 use mathlib.Core.Bool.{Bool, true, false, cond, ◌&&◌}
 use mathlib.Core.List.{List, [], ◌∷◌, ◌++◌}

@@ -1,6 +1,5 @@
 -- What a reading tells of a set of texts, and how that carries over to texts that start with a form.
 -- Assumes nothing.
-use Rattle.std.specs.Prelude.{Some}
 use mathlib.Core.Path.{◌≡◌, refl, sym, ap, subst, ◌∙◌}
 use mathlib.Core.List.{List, [], ◌++◌, append_assoc, append-nil}
 use mathlib.Core.Logic.{◌≢◌}

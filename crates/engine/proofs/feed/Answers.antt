@@ -1,5 +1,8 @@
 -- By the tests, in their order.
 -- Assumes nothing.
+use mathlib.Core.Path.{refl, sym, ap, ◌∙◌}
+use Rattle.bodies.proofs.Bodies.{refused}
+use Rattle.asking.specs.Told.{asked_as}
 use Rattle.engine.proofs.Feeding.{one_more, at_cell, fed_stays, fed_full, fed_refused, fed_unstored, fed_stored}
 use Rattle.engine.proofs.feed.Goals as goal
 
@@ -9,9 +12,11 @@ returns-then-engine-ne0 c = record { fed = λ g k. fed_stays g c.args.engine c.a
 pub returns-then-engine-ge-MOST_FED : goal.returns-then-engine-ge-MOST_FED
 returns-then-engine-ge-MOST_FED c = record { fed = λ g k. fed_full g c.args.engine c.args.word c.if-engine-ne0.false c.if-engine-ge-MOST_FED.true }
 
-pub returns-then-asked-ne0 : goal.returns-then-asked-ne0
-returns-then-asked-ne0 c = record {
-  fed = λ g k. fed_refused g c.args.engine c.args.word c.if-engine-ne0.false c.if-engine-ge-MOST_FED.false (c.ask-asked.ensures.asked g k) c.if-asked-ne0.true;
+pub returns-in-Err : goal.returns-in-Err
+returns-in-Err c = record {
+  fed = λ g k.
+      let told = sym (ap asked_as c.in-Err.is) ∙ c.ask.ensures.asked g k in
+      rw c.number.ensures.number (fed_refused g c.args.engine c.args.word c.if-engine-ne0.false c.if-engine-ge-MOST_FED.false told (refused _));
 }
 
 pub overflow_add-engine : goal.overflow_add-engine
@@ -20,7 +25,7 @@ overflow_add-engine c = one_more _ c.if-engine-ge-MOST_FED.false
 pub returns-then-cell-ge-CELLS : goal.returns-then-cell-ge-CELLS
 returns-then-cell-ge-CELLS c = record {
   fed = λ g k.
-      fed_unstored g c.args.engine c.args.word c.if-engine-ne0.false c.if-engine-ge-MOST_FED.false (c.ask-asked.ensures.asked g k) c.if-asked-ne0.false
+      fed_unstored g c.args.engine c.args.word c.if-engine-ne0.false c.if-engine-ge-MOST_FED.false (sym (ap asked_as c.in-Ok.is) ∙ c.ask.ensures.asked g k) refl
       c.if-cell-ge-CELLS.true;
 }
 
@@ -36,6 +41,6 @@ set_mark-requires c = record { inside = c.if-cell-ge-CELLS.false }
 pub returns : goal.returns
 returns c = record {
   fed = λ g k.
-      fed_stored g c.args.engine c.args.word c.if-engine-ne0.false c.if-engine-ge-MOST_FED.false (c.ask-asked.ensures.asked g k) c.if-asked-ne0.false
+      fed_stored g c.args.engine c.args.word c.if-engine-ne0.false c.if-engine-ge-MOST_FED.false (sym (ap asked_as c.in-Ok.is) ∙ c.ask.ensures.asked g k) refl
       c.if-cell-ge-CELLS.false c.set_mark.ensures.marked;
 }
