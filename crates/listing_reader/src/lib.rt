@@ -7,7 +7,7 @@ ghost use Rattle.laws.specs.Lists.{over};
 ghost use Rattle.meaning.specs.Words.{words_of, bytes_of};
 ghost use Rattle.meaning.specs.Registers.{cells};
 ghost use Rattle.meaning.specs.State.{state_words, apply_all};
-ghost use Rattle.meaning.specs.Answers.{answer, not_listing, settle};
+ghost use Rattle.meaning.specs.Answers.{answer_in, settle};
 ghost use Rattle.meaning.specs.ListingReader.{along, form_of, head_form, table_lines, further, read_lines, listing_answer, listing_leaves};
 ghost use Rattle.listings.specs.Lines.{line_for};
 ghost use Rattle.line_reader.specs.Named.{digit_table};

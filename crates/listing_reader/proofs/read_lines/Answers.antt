@@ -1,5 +1,6 @@
 -- To read on from here, with what is stored, is to read all lines.
 -- Assumes nothing.
+use mathlib.Core.Path.{refl}
 use Prim.Native.Nat.{◌+◌, ◌-◌}
 use native.Mathlib.Omega.{arith}
 use lib.ListN.{length-drop, drop}
@@ -23,7 +24,7 @@ pub overflow_add-at : goal.overflow_add-at
 overflow_add-at c = omega (arith, c.furthest.ensures.bytes, furthest_within (cells + 1 - c.loop-left.left - c.loop-left.c) c.loop-left.c (drop c.loop-left.at c.args.text.now), length-drop c.loop-left.at c.args.text.now, c.loop-left.invariant.1.inside)
 
 pub returns-then-found-ge-CELLS : goal.returns-then-found-ge-CELLS
-returns-then-found-ge-CELLS c = let both = lined_none c.args.text.now c.args.start c.args.n c.args.state.now c.loop-left.invariant.1 (λ e. omega arith) c.read_line-line.ensures.line (omega arith) c.furthest.ensures.bytes c.refused.ensures.answer in record { answer = both.0; state = both.1 }
+returns-then-found-ge-CELLS c = let both = lined_none c.args.text.now c.args.start c.args.n c.args.state.now c.loop-left.invariant.1 (λ e. omega arith) c.read_line-line.ensures.line (omega arith) c.furthest.ensures.bytes (rw c.at.ensures.at refl) in record { answer = both.0; state = both.1 }
 
 pub overflow_add-at-in-loop-left : goal.overflow_add-at-in-loop-left
 overflow_add-at-in-loop-left c = omega (arith, line_inside c.args.text.now c.args.start c.args.n c.args.state.now c.loop-left.invariant.1 (λ e. omega arith) c.read_line-line.ensures.line (omega arith) c.width-at.ensures.width)
@@ -32,7 +33,7 @@ pub loop-left-preserved : goal.loop-left-preserved
 loop-left-preserved c = (c.loop-left.invariant.0, lined_next c.args.text.now c.args.start c.args.n c.args.state.now c.loop-left.invariant.1 (λ e. omega arith) c.read_line-line.ensures.line (omega arith) c.width-at.ensures.width)
 
 pub returns-then-at-text : goal.returns-then-at-text
-returns-then-at-text c = let both = lined_more c.args.text.now c.args.start c.args.n c.args.state.now c.loop-left.invariant.1 (omega arith) (λ e. omega arith) c.refused-then-at-text.ensures.answer in record { answer = both.0; state = both.1 }
+returns-then-at-text c = let both = lined_more c.args.text.now c.args.start c.args.n c.args.state.now c.loop-left.invariant.1 (omega arith) (λ e. omega arith) (rw c.at-then-at-text.ensures.at refl) in record { answer = both.0; state = both.1 }
 
 pub returns : goal.returns
 returns c = let both = lined_end c.args.text.now c.args.start c.args.n c.args.state.now c.loop-left.invariant.1 (omega arith) (omega arith) in record { answer = both.0; state = both.1 }
