@@ -1,174 +1,225 @@
 // The families: what is done to a listing, and how often.
+ghost use Rattle.std.specs.Prelude.{◌≤◌};
+
 use super::calls;
-use super::desk::{
-    BEFORE, Desk, EXPECTED, KEPT, LEFT, STATE, TEXT, byte_at, copy, cut, dice, lay_state, len,
-    minus, narrow, plus, put_byte, sum,
-};
-use super::making::{ALL, exchange, leave_out, push_head, push_lines, some_listing};
-use super::tally::{check, check_lent, check_stated, hold_same};
+use super::dice::Dice;
+use super::listing::Listing;
+use super::page::BadPage;
+use super::readers::Readers;
+use super::state::{CELLS, some_old_words};
+use std::io;
 
-// What is done to each listing, by the page's numbers; with 0 it is read back as it is.
-const CUT: u32 = 1;
-
-const CHANGED: u32 = 2;
-
-const LINES: u32 = 3;
-
-const COUNTED: u32 = 4;
-
-const PAIRED: u32 = 5;
-
-const LENT: u32 = 6;
-
-// The state comes back, into the buffer's words and nowhere else; and listed again it is the same text.
-fn there_and_back(desk: &mut Desk) {
-    let stated = calls::answer(0, len(desk, KEPT));
-    check_stated(desk, stated);
-    copy(desk, BEFORE, EXPECTED);
-    lay_state(desk, STATE, EXPECTED);
-    hold_same(desk, LEFT, EXPECTED, stated);
-    calls::list(desk, LEFT, EXPECTED);
-    hold_same(desk, KEPT, EXPECTED, stated);
+// What is done to each listing, in the order of the page's numbers: it is read back as it is; cut after each of its
+// bytes; changed in each byte, in eight ways; damaged in its lines; counted otherwise; made of two of its lines; read
+// into buffers of all lengths.
+#[derive(Clone, Copy, PartialEq, Eq)]
+pub(super) enum Family {
+    ThereAndBack,
+    Cut,
+    Changed,
+    Lines,
+    Counted,
+    Paired,
+    Lent,
 }
 
-fn check_cut(desk: &mut Desk, n: usize) {
-    cut(desk, TEXT, n);
-    check(desk);
-}
+const FAMILIES: [Family; 7] = [
+    Family::ThereAndBack,
+    Family::Cut,
+    Family::Changed,
+    Family::Lines,
+    Family::Counted,
+    Family::Paired,
+    Family::Lent,
+];
 
-// Another byte, or by chance the same: a bit off, in the other case, past ASCII; a line's end, 0, a digit, a letter,
-// any.
-fn another(byte: u8, way: u32, thrown: u32) -> u8 {
-    match way {
-        0 => byte ^ 1,
-        1 => byte ^ 0x20,
-        2 => byte ^ 0x80,
-        3 => b'\n',
-        4 => b'0',
-        5 => (thrown % 10) as u8 + 48,
-        6 => (thrown % 6) as u8 + 97,
-        _ => (thrown % 256) as u8,
+impl TryFrom<u32> for Family {
+    type Error = BadPage;
+
+    fn try_from(number: u32) -> Result<Family, BadPage> {
+        FAMILIES
+            .get(number as usize)
+            .copied()
+            .ok_or(BadPage::NoSuchFamily)
     }
 }
 
-// The listing with another byte in that place, or with one more behind its end.
-fn check_changed(desk: &mut Desk, i: usize, way: u32) {
-    copy(desk, KEPT, TEXT);
-    let byte = byte_at(desk, TEXT, i);
-    put_byte(desk, TEXT, i, another(byte, way, dice(way, narrow(i))));
-    if i >= len(desk, TEXT) {
-        cut(desk, TEXT, plus(i, 1));
-    }
-    check(desk);
-}
-
-fn check_without(desk: &mut Desk, count: u32, line: usize) {
-    push_head(desk, count, 0);
-    leave_out(desk, line);
-    check(desk);
-}
-
-fn check_exchanged(desk: &mut Desk, count: u32, line: usize, other: usize) {
-    push_head(desk, count, 0);
-    exchange(desk, line, other);
-    check(desk);
-}
-
-// A line left out, with the count as it was and as it then should be; doubled, with one count or the other; and
-// exchanged with one of the next eight.
-fn damage_line(desk: &mut Desk, cells: u32, line: usize) {
-    check_without(desk, cells, line);
-    check_without(desk, sum(cells, 0xffffffff), line);
-    check_exchanged(desk, sum(cells, narrow(line) % 2), line, line);
-    check_exchanged(desk, cells, line, plus(line, line % 8 + 1));
-}
-
-// That count, up to two more than there are cells; then the true one with two digits, and with three.
-fn check_count(desk: &mut Desk, cells: u32, count: u32) {
-    if count < 104 {
-        push_head(desk, count, 0);
-    } else {
-        push_head(desk, cells, count - 102);
-    }
-    push_lines(desk, 1, ALL);
-    check(desk);
-}
-
-fn check_two(desk: &mut Desk, count: u32, line: usize, other: usize) {
-    push_head(desk, count, 0);
-    push_lines(desk, line, line);
-    push_lines(desk, other, other);
-    check(desk);
-}
-
-// The line in front of another, under the count of two; and alone, under another count.
-fn pair_lines(desk: &mut Desk, line: usize, other: usize) {
-    check_two(desk, 2, line, other);
-    check_two(desk, narrow(other), line, ALL);
-}
-
-// No words, one word, some around a state's number, and far more.
-fn lent(k: usize) -> usize {
-    match k {
-        0..=7 => k,
-        8..=39 => k + 784,
-        _ => k % 64 * 48,
+impl Family {
+    // The listings are of every number of cells in turn; those whose every byte is changed, of every fifth.
+    fn cells(self, k: usize) -> usize
+        ensures { result ≤ 101 }
+    {
+        match self {
+            Family::Changed => CELLS - k % 21 * 5,
+            _ => CELLS - k % 102,
+        }
     }
 }
 
-// A buffer of some length, for the listing and for the text without its last byte.
-fn check_length(desk: &mut Desk, k: usize) {
-    let n = len(desk, KEPT);
-    cut(desk, TEXT, minus(n, k % 2));
-    check_lent(desk, lent(k / 2));
+// Ways to another byte, or by chance the same: a bit off, in the other case, past ASCII; a line's end, 0, a digit, a
+// letter, any.
+#[derive(Clone, Copy)]
+enum Change {
+    Bit,
+    Case,
+    PastAscii,
+    LineEnd,
+    Zero,
+    Digit,
+    Letter,
+    Any,
 }
 
-// In how many turns a listing is gone through: every length; every byte and one more, in eight ways; every line; every
-// count up to two more than there are cells, and the true one with leading zeros; every line with every other.
-fn turns(desk: &Desk, kind: u32, cells: u32) -> usize {
-    match kind {
-        CUT => len(desk, KEPT),
-        CHANGED => plus(len(desk, KEPT) << 3, 8),
-        LINES => cells as usize,
-        COUNTED => 106,
-        PAIRED => 101 * 102,
-        LENT => 128,
-        _ => 1,
+const CHANGES: [Change; 8] = [
+    Change::Bit,
+    Change::Case,
+    Change::PastAscii,
+    Change::LineEnd,
+    Change::Zero,
+    Change::Digit,
+    Change::Letter,
+    Change::Any,
+];
+
+impl Change {
+    fn of(self, byte: u8, thrown: u32) -> u8 {
+        match self {
+            Change::Bit => byte ^ 1,
+            Change::Case => byte ^ 0x20,
+            Change::PastAscii => byte ^ 0x80,
+            Change::LineEnd => b'\n',
+            Change::Zero => b'0',
+            Change::Digit => b'0' + (thrown % 10) as u8,
+            Change::Letter => b'a' + (thrown % 6) as u8,
+            Change::Any => (thrown % 256) as u8,
+        }
     }
 }
 
-fn turn(desk: &mut Desk, kind: u32, cells: u32, i: usize) {
-    match kind {
-        CUT => check_cut(desk, i),
-        CHANGED => check_changed(desk, i / 8, narrow(i) % 8),
-        LINES => damage_line(desk, cells, plus(i, 1)),
-        COUNTED => check_count(desk, cells, narrow(i)),
-        PAIRED => pair_lines(desk, i / 102 + 1, i % 102),
-        LENT => check_length(desk, i),
-        _ => there_and_back(desk),
-    }
-}
+// More than the lines of any listing.
+const ALL: usize = 999;
 
-fn go_through(desk: &mut Desk, kind: u32, cells: u32) {
-    let n = turns(desk, kind, cells);
-    for i in 0..n {
-        turn(desk, kind, cells, i);
+impl Readers {
+    // So many made-up listings, each gone through as the family has it.
+    pub(super) fn run_family(&mut self, family: Family, listings: usize) -> io::Result<()> {
+        let dice = Dice((family as u32) << 20);
+        for k in 0..listings {
+            let thrown = dice.thrown(k);
+            let listing = Listing::made_up(self.alloc, family.cells(k), thrown.thrown(1))?;
+            self.old = some_old_words(self.alloc, thrown.thrown(2))?;
+            self.go_through(family, &listing)?;
+        }
+        Ok(())
     }
-}
 
-// The listings are of every number of cells in turn; those whose every byte is changed, of every fifth.
-fn size(kind: u32, k: u32) -> u32 {
-    if kind == CHANGED {
-        101 - k % 21 * 5
-    } else {
-        101 - k % 102
+    fn go_through(&mut self, family: Family, listing: &Listing) -> io::Result<()> {
+        match family {
+            Family::ThereAndBack => self.there_and_back(listing),
+            Family::Cut => self.cut(listing),
+            Family::Changed => self.change(listing),
+            Family::Lines => self.damage_lines(listing),
+            Family::Counted => self.count_otherwise(listing),
+            Family::Paired => self.pair_lines(listing),
+            Family::Lent => self.lend(listing),
+        }
     }
-}
 
-pub(super) fn made_up(desk: &mut Desk, kind: u32, listings: u32) {
-    for k in 0..listings {
-        let cells = size(kind, k);
-        some_listing(desk, cells as usize, dice(kind << 20, k));
-        go_through(desk, kind, cells);
+    // The state comes back, into the buffer's words and nowhere else; and listed again it is the same text.
+    fn there_and_back(&mut self, listing: &Listing) -> io::Result<()> {
+        let stated = Ok(listing.text.len());
+        let left = self.check_stated(&listing.text, stated)?.left;
+        let mut expected = self.old.clone()?;
+        listing.state.lay(&mut expected);
+        if left != expected {
+            self.tally.note_difference(stated, stated)?;
+        }
+        let again = calls::list(self.alloc, &left)?;
+        if again != listing.text {
+            self.tally.note_difference(stated, stated)?;
+        }
+        Ok(())
+    }
+
+    // Every length.
+    fn cut(&mut self, listing: &Listing) -> io::Result<()> {
+        let text = &listing.text;
+        for n in 0..text.len() {
+            self.check(&text[..n])?;
+        }
+        Ok(())
+    }
+
+    // Every byte changed in every way, and one more behind the end.
+    fn change(&mut self, listing: &Listing) -> io::Result<()> {
+        for i in 0..=listing.text.len() {
+            for change in CHANGES {
+                let thrown = Dice(change as u32).throw(i);
+                let mut text = listing.text.clone()?;
+                match text.get_mut(i) {
+                    Some(byte) => *byte = change.of(*byte, thrown),
+                    None => text.push(change.of(0, thrown))?,
+                }
+                self.check(&text)?;
+            }
+        }
+        Ok(())
+    }
+
+    // Every line left out, with the count as it was and as it then should be; doubled, with one count or the other; and
+    // exchanged with one of the next eight, or moved to the end where there is none.
+    fn damage_lines(&mut self, listing: &Listing) -> io::Result<()> {
+        let cells = listing.cells;
+        for line in 1..=cells {
+            let without = [1..line, line + 1..ALL];
+            self.check(&listing.text_of(cells, 0, &without)?)?;
+            self.check(&listing.text_of(cells - 1, 0, &without)?)?;
+            let doubled = [1..line + 1, line..ALL];
+            self.check(&listing.text_of(cells + line % 2, 0, &doubled)?)?;
+            let other = line + line % 8 + 1;
+            let exchanged = [
+                1..line,
+                other..other + 1,
+                line + 1..other,
+                line..line + 1,
+                other + 1..ALL,
+            ];
+            self.check(&listing.text_of(cells, 0, &exchanged)?)?;
+        }
+        Ok(())
+    }
+
+    // Every count up to two more than there are cells; then the true one with two digits, and with three.
+    fn count_otherwise(&mut self, listing: &Listing) -> io::Result<()> {
+        for count in 0..CELLS + 3 {
+            self.check(&listing.text_of(count, 0, &[1..ALL])?)?;
+        }
+        for digits in 2..4 {
+            self.check(&listing.text_of(listing.cells, digits, &[1..ALL])?)?;
+        }
+        Ok(())
+    }
+
+    // Every line in front of every other, under the count of two; and alone, under every count.
+    fn pair_lines(&mut self, listing: &Listing) -> io::Result<()> {
+        for line in 1..CELLS + 1 {
+            for other in 0..CELLS + 1 {
+                let two = [line..line + 1, other..other + 1];
+                self.check(&listing.text_of(2, 0, &two)?)?;
+                self.check(&listing.text_of(other, 0, &[line..line + 1])?)?;
+            }
+        }
+        Ok(())
+    }
+
+    // Buffers of no words, of one word, of some around a state's number, and of far more; each for the listing and for
+    // the text without its last byte.
+    fn lend(&mut self, listing: &Listing) -> io::Result<()> {
+        let whole = listing.text.as_slice();
+        let short = &whole[..whole.len().saturating_sub(1)];
+        for bytes in (0..8).chain(792..824).chain((40..64).map(|k| k * 48)) {
+            self.check_lent(whole, bytes)?;
+            self.check_lent(short, bytes)?;
+        }
+        Ok(())
     }
 }

@@ -2,100 +2,108 @@
 // reason, the place and the text, a colon behind each of the first two; in the text | stands for the byte that ends a
 // line. A family is ~, what is done to its listings, how many they are, and its title. What is told is ?, the first count
 // of how many, and their title. All other lines are passed over.
-use super::calls::answer;
-use super::desk::{Desk, NAMES, TEXT, TITLE, copy, fill, plus, push};
-use super::families::made_up;
-use super::second::byte_in;
-use super::tally::{check_stated, end_family, tell_counts};
+use super::answer::numbered;
+use super::families::Family;
+use super::readers::Readers;
+use super::tally::Counted;
+use std::alloc::{AllocError, Global};
+use std::io;
+use std::num::ParseIntError;
 
-// The number with that digit more, in the part where it stands.
-fn more(number: usize, byte: u8, here: bool) -> usize {
-    if here && byte != b':' {
-        plus(plus(number << 3, number << 1), byte as usize & 15)
-    } else {
-        number
+// What a line of the page has wrong.
+#[derive(Clone, Copy)]
+pub(super) enum BadPage {
+    NoColon,
+    NoNumber,
+    NoSuchFamily,
+    NoSuchCount,
+}
+
+impl From<ParseIntError> for BadPage {
+    fn from(_error: ParseIntError) -> BadPage {
+        BadPage::NoNumber
     }
 }
 
-fn next_part(part: u32, byte: u8) -> u32 {
-    if part < 2 && byte == b':' {
-        part + 1
-    } else {
-        part
+impl From<BadPage> for io::Error {
+    fn from(wrong: BadPage) -> io::Error {
+        io::Error::new(
+            io::ErrorKind::InvalidData,
+            match wrong {
+                BadPage::NoColon => "a line of the page has no second colon",
+                BadPage::NoNumber => "a line of the page has no number in front of a colon",
+                BadPage::NoSuchFamily => "a line of the page has the number of no family",
+                BadPage::NoSuchCount => "a line of the page has the number of no count",
+            },
+        )
     }
 }
 
-fn meant(byte: u8) -> u8 {
-    if byte == b'|' { b'\n' } else { byte }
+// Two numbers and what stands behind them.
+#[derive(Clone, Copy)]
+struct Entry<'a> {
+    first: u32,
+    second: usize,
+    text: &'a str,
 }
 
-// Takes the text from the line, and tells the answer that stands there.
-fn take_line(desk: &mut Desk, page: &[u8], start: usize, end: usize) -> u64 {
-    fill(desk, TEXT, 0, 0);
-    let mut part = 0u32;
-    let mut reason = 0usize;
-    let mut place = 0usize;
-    for i in start..end {
-        let byte = byte_in(page, i);
-        if part == 2 {
-            push(desk, TEXT, meant(byte));
+impl<'a> Entry<'a> {
+    fn of(line: &'a str) -> Result<Entry<'a>, BadPage> {
+        let (first, rest) = line.split_once(':').ok_or(BadPage::NoColon)?;
+        let (second, text) = rest.split_once(':').ok_or(BadPage::NoColon)?;
+        Ok(Entry {
+            first: first.parse()?,
+            second: second.parse()?,
+            text,
+        })
+    }
+}
+
+// The bytes that a text of the page stands for.
+fn meant(alloc: Global, text: &str) -> Result<Vec<u8>, AllocError> {
+    text.bytes()
+        .map(|byte| if byte == b'|' { b'\n' } else { byte })
+        .collect(alloc)
+}
+
+impl Readers {
+    fn run_case(&mut self, line: &str) -> io::Result<()> {
+        let case = Entry::of(line)?;
+        let text = meant(self.alloc, case.text)?;
+        self.check_stated(&text, numbered(case.first, case.second))?;
+        Ok(())
+    }
+
+    fn run_made_up(&mut self, line: &str) -> io::Result<()> {
+        let entry = Entry::of(line)?;
+        self.run_family(Family::try_from(entry.first)?, entry.second)?;
+        self.tally.end_family(entry.text)
+    }
+
+    fn run_told(&mut self, line: &str) -> io::Result<()> {
+        let entry = Entry::of(line)?;
+        self.tally
+            .tell_counts(entry.first, entry.second, entry.text)
+    }
+
+    fn lay_names(&mut self, names: &str) -> io::Result<()> {
+        for name in names.split(',') {
+            self.registers.push(name)?;
         }
-        reason = more(reason, byte, part == 0);
-        place = more(place, byte, part == 1);
-        part = next_part(part, byte);
+        Ok(())
     }
-    answer(reason, place)
-}
 
-fn run_case(desk: &mut Desk, page: &[u8], start: usize, end: usize) {
-    let told = take_line(desk, page, start, end);
-    check_stated(desk, told);
-}
-
-// Takes a line whose text is a title.
-fn take_titled(desk: &mut Desk, page: &[u8], start: usize, end: usize) -> u64 {
-    let told = take_line(desk, page, start, end);
-    copy(desk, TEXT, TITLE);
-    told
-}
-
-fn run_family(desk: &mut Desk, page: &[u8], start: usize, end: usize) {
-    let told = take_titled(desk, page, start, end);
-    made_up(desk, (told % 256) as u32, (told / 256 % 65536) as u32);
-    end_family(desk);
-}
-
-fn run_told(desk: &mut Desk, page: &[u8], start: usize, end: usize) {
-    let told = take_titled(desk, page, start, end);
-    tell_counts(desk, (told % 256) as usize, (told / 256) as usize);
-}
-
-fn lay_names(desk: &mut Desk, page: &[u8], start: usize, end: usize) {
-    for i in start..end {
-        let byte = byte_in(page, i);
-        if byte != b',' {
-            push(desk, NAMES, byte);
-        }
-    }
-}
-
-fn run_line(desk: &mut Desk, page: &[u8], start: usize, end: usize) {
-    match byte_in(page, start) {
-        b'0'..=b'9' => run_case(desk, page, start, end),
-        b'@' => lay_names(desk, page, plus(start, 1), end),
-        b'~' => run_family(desk, page, plus(start, 1), end),
-        b'?' => run_told(desk, page, plus(start, 1), end),
-        _ => {}
-    }
-}
-
-pub(super) fn run_page(desk: &mut Desk, page: &[u8]) {
-    let n = page.len();
-    let mut start = 0usize;
-    for i in 0..n {
-        if page[i] == b'\n' {
-            run_line(desk, page, start, i);
-            start = plus(i, 1);
+    pub(super) fn run_line(&mut self, line: &str) -> io::Result<()> {
+        if let Some(names) = line.strip_prefix('@') {
+            self.lay_names(names)
+        } else if let Some(family) = line.strip_prefix('~') {
+            self.run_made_up(family)
+        } else if let Some(counts) = line.strip_prefix('?') {
+            self.run_told(counts)
+        } else if line.starts_with(|c: char| c.is_ascii_digit()) {
+            self.run_case(line)
+        } else {
+            Ok(())
         }
     }
 }

@@ -2,244 +2,271 @@
 // the line at hand may still be of: those behind the last line's cell that leave enough cells for the count, and whose
 // lines begin as this one does. The first byte that leaves no cell is the place. Nothing is shared with the first: no
 // table, no definition, no function.
-use super::calls::answer;
-use super::desk::{
-    Desk, ENDED, MADE, NAMES, RIGHT, TEXT, byte_at, fill, lay_state, len, minus, plus, put,
-};
-
-// What is known when so many bytes are taken: the next one's column in its line, whether that is the first line, how many
-// lines are wanted from here on, the last eight hex digits, and the cells that the line may be of, those from low to
-// before end. The lines are in the order of their texts too, so cells whose lines begin alike stand side by side.
-#[derive(Clone, Copy)]
-struct Known {
-    taken: usize,
-    column: usize,
-    first_line: bool,
-    wanted: usize,
-    digits: u32,
-    low: usize,
-    end: usize,
-}
+use super::answer::{Reason, Refusal};
+use super::state::{CELLS, FIRST_WIDE, STATE_WORDS, State};
+use std::alloc::{AllocError, Global};
+use std::ops::Range;
 
 // The parts of a text, where a reading may end: `cells=`, the count with its line's end, `reg=`, a name, ` val=`, a value,
 // a line's end, behind the last line.
-const KEY: u32 = 0;
-
-const COUNT: u32 = 1;
-
-const REG: u32 = 2;
-
-const NAME: u32 = 3;
-
-const VAL: u32 = 4;
-
-const VALUE: u32 = 5;
-
-const LINE_END: u32 = 6;
-
-const BEHIND: u32 = 7;
-
-pub(super) fn byte_in(text: &[u8], i: usize) -> u8 {
-    if i < text.len() { text[i] } else { 0 }
+#[derive(Clone, Copy, PartialEq, Eq, PartialOrd, Ord)]
+pub(super) enum Part {
+    Key,
+    Count,
+    Reg,
+    Name,
+    Val,
+    Value,
+    LineEnd,
+    Behind,
 }
 
-// What a hex digit counts, and 16 for any other byte.
-fn digit(byte: u8) -> u32 {
+pub(super) const PARTS: [Part; 8] = [
+    Part::Key,
+    Part::Count,
+    Part::Reg,
+    Part::Name,
+    Part::Val,
+    Part::Value,
+    Part::LineEnd,
+    Part::Behind,
+];
+
+// Why a reading ended early: the buffer holds no state, or no listing goes on so in this part.
+#[derive(Clone, Copy)]
+pub(super) enum Stopped {
+    BadState,
+    NotAListing { place: usize, part: Part },
+}
+
+impl From<Stopped> for Refusal {
+    fn from(stopped: Stopped) -> Refusal {
+        match stopped {
+            Stopped::BadState => Refusal {
+                reason: Reason::BadState,
+                place: 0,
+            },
+            Stopped::NotAListing { place, .. } => Refusal {
+                reason: Reason::NotAListing,
+                place,
+            },
+        }
+    }
+}
+
+// What a hex digit counts.
+fn digit(byte: u8) -> Option<u32> {
     match byte {
-        b'0'..=b'9' => byte as u32 - 48,
-        b'a'..=b'f' => byte as u32 - 87,
-        _ => 16,
+        b'0'..=b'9' => Some(u32::from(byte - b'0')),
+        b'a'..=b'f' => Some(u32::from(byte - b'a') + 10),
+        _ => None,
     }
 }
 
-// What stands in that column of the cell's line, # for any digit: NAMES has the eight bytes behind `reg=`, and a 3D value
-// is below 2^24.
-fn expected(desk: &Desk, cell: usize, column: usize) -> u8 {
-    match column {
-        0..=3 => byte_in(b"reg=", column),
-        4..=11 => byte_at(desk, NAMES, plus(cell << 3, column - 4)),
-        _ => if cell < 84 {
-            byte_in(b" val=00######\n", column - 12)
+// What stands in a column of a cell's line.
+#[derive(Clone, Copy)]
+enum Wanted {
+    Byte(u8),
+    Digit,
+}
+
+impl Wanted {
+    fn admits(self, byte: u8) -> bool {
+        match self {
+            Wanted::Byte(wanted) => byte == wanted,
+            Wanted::Digit => digit(byte).is_some(),
+        }
+    }
+}
+
+#[derive(Clone, Copy)]
+struct Column {
+    part: Part,
+    wanted: Wanted,
+}
+
+// A line as it is known behind the last byte taken: its next column, and the cells that it may be of. The lines are in
+// the order of their texts too, so cells whose lines begin alike stand side by side. With it, how many lines are wanted
+// from it on, and the last eight hex digits.
+#[derive(Drop)]
+struct Line {
+    column: usize,
+    cells: Range<usize>,
+    wanted: usize,
+    digits: u32,
+}
+
+// Where the next byte stands: in a column of `cells=`, in the count, in a line, or behind the last.
+#[derive(Drop)]
+enum At {
+    Key(usize),
+    Count(Option<usize>),
+    Line(Line),
+    Behind,
+}
+
+const KEY: &[u8; 6] = b"cells=";
+
+impl At {
+    // A line's end is taken: the next one is of a cell from low on that leaves as many cells as lines are wanted behind
+    // it.
+    fn next_line(low: usize, wanted: usize) -> Option<At> {
+        if wanted == 0 {
+            return Some(At::Behind);
+        }
+        Some(At::Line(Line {
+            column: 0,
+            cells: low..(CELLS + 1).checked_sub(wanted)?,
+            wanted,
+            digits: 0,
+        }))
+    }
+
+    fn take_in_key(column: usize, byte: u8) -> Option<At> {
+        if *KEY.get(column)? != byte {
+            return None;
+        }
+        Some(if column + 1 == KEY.len() {
+            At::Count(None)
         } else {
-            byte_in(b"=########\n", column - 12)
-        },
+            At::Key(column + 1)
+        })
+    }
+
+    // The count does not go on behind a zero, nor to more than there are cells.
+    fn take_in_count(count: Option<usize>, byte: u8) -> Option<At> {
+        if byte == b'\n' {
+            return At::next_line(0, count?);
+        }
+        if count == Some(0) || !byte.is_ascii_digit() {
+            return None;
+        }
+        let grown = count
+            .unwrap_or(0)
+            .checked_mul(10)?
+            .checked_add(usize::from(byte - b'0'))?;
+        if grown > CELLS {
+            return None;
+        }
+        Some(At::Count(Some(grown)))
     }
 }
 
-fn fits(desk: &Desk, cell: usize, column: usize, byte: u8) -> bool {
-    let wanted = expected(desk, cell, column);
-    if wanted == b'#' {
-        digit(byte) < 16
-    } else {
-        wanted == byte
-    }
+// The lines of the cells, in their order.
+#[derive(Drop)]
+pub(super) struct Registers {
+    alloc: Global,
+    lines: Vec<Vec<Column>>,
 }
 
-// The lowest of the cells whose line has that byte in the column, or their end.
-fn lowest(desk: &Desk, low: usize, end: usize, column: usize, byte: u8) -> usize {
-    for cell in low..end {
-        if fits(desk, cell, column, byte) {
-            return cell;
+impl Registers {
+    pub(super) fn new(alloc: Global) -> Registers {
+        Registers {
+            alloc,
+            lines: Vec::new(alloc),
         }
     }
-    end
-}
 
-// The end behind the highest of them, or the lowest.
-fn highest(desk: &Desk, low: usize, end: usize, column: usize, byte: u8) -> usize {
-    for i in low..end {
-        let above = minus(plus(low, end), i);
-        if fits(desk, minus(above, 1), column, byte) {
-            return above;
+    // Adds the next cell's line, by the eight bytes behind `reg=`: a name of eight bytes, or one of four and ` val`. A
+    // value has eight digits, of which that of a 3D register uses six.
+    pub(super) fn push(&mut self, named: &str) -> Result<(), AllocError> {
+        let name = named.strip_suffix(" val").unwrap_or(named);
+        let value = if self.lines.len() < FIRST_WIDE {
+            "00######"
+        } else {
+            "########"
+        };
+        let mut line = Vec::new(self.alloc);
+        for (part, text) in [
+            (Part::Reg, "reg="),
+            (Part::Name, name),
+            (Part::Val, " val="),
+            (Part::Value, value),
+            (Part::LineEnd, "\n"),
+        ] {
+            for byte in text.bytes() {
+                let wanted = match byte {
+                    b'#' => Wanted::Digit,
+                    _ => Wanted::Byte(byte),
+                };
+                line.push(Column { part, wanted })?;
+            }
+        }
+        self.lines.push(line)?;
+        Ok(())
+    }
+
+    fn column(&self, cell: usize, column: usize) -> Option<Column> {
+        self.lines.get(cell)?.get(column).copied()
+    }
+
+    // Those of the cells whose line has that byte in the column.
+    fn alike(&self, line: &Line, byte: u8) -> Option<Range<usize>> {
+        let mut alike = (line.cells.start..line.cells.end).filter(|cell| {
+            self.column(*cell, line.column)
+                .is_some_and(|column| column.wanted.admits(byte))
+        });
+        let lowest = alike.next()?;
+        let highest = alike.next_back().unwrap_or(lowest);
+        Some(lowest..highest.checked_add(1)?)
+    }
+
+    fn take_in_line(&self, line: &Line, byte: u8, state: &mut State) -> Option<At> {
+        let cells = self.alike(line, byte)?;
+        if byte == b'\n' {
+            state.mark(cells.start, line.digits);
+            return At::next_line(cells.start.checked_add(1)?, line.wanted.checked_sub(1)?);
+        }
+        Some(At::Line(Line {
+            column: line.column.checked_add(1)?,
+            cells,
+            wanted: line.wanted,
+            digits: line.digits << 4 | digit(byte).unwrap_or(0),
+        }))
+    }
+
+    // Takes the byte; none, where no listing goes on with it.
+    fn take(&self, at: &At, byte: u8, state: &mut State) -> Option<At> {
+        match at {
+            At::Key(column) => At::take_in_key(*column, byte),
+            At::Count(count) => At::take_in_count(*count, byte),
+            At::Line(line) => self.take_in_line(line, byte, state),
+            At::Behind => None,
         }
     }
-    low
-}
 
-// The byte behind a line is taken: of the next one, which is of a cell from low on, with so many wanted, that leave as
-// many cells. Where none is wanted, no cell is left.
-fn next_line(known: Known, low: usize, wanted: usize) -> Known {
-    Known {
-        taken: plus(known.taken, 1),
-        column: 0,
-        first_line: false,
-        wanted: wanted,
-        digits: 0,
-        low: low,
-        end: if wanted == 0 { low } else { minus(102, wanted) },
-    }
-}
-
-fn next_column(known: Known) -> Known {
-    let mut next = known;
-    next.taken = plus(next.taken, 1);
-    next.column = plus(next.column, 1);
-    next
-}
-
-fn end_line(desk: &mut Desk, known: Known) -> Known {
-    let cell = known.low;
-    let wanted = minus(known.wanted, 1);
-    put(desk, MADE, cell, known.digits);
-    put(desk, MADE, plus(cell, 101), 1);
-    next_line(known, plus(cell, 1), wanted)
-}
-
-fn take_in_line(desk: &mut Desk, known: Known, byte: u8) -> Known {
-    let seen = &*desk;
-    let mut next = known;
-    let low = lowest(seen, next.low, next.end, next.column, byte);
-    let end = highest(seen, next.low, next.end, next.column, byte);
-    if low >= end {
-        return next;
-    }
-    if byte == b'\n' {
-        return end_line(desk, next);
-    }
-    next.low = low;
-    next.end = end;
-    next.digits = next.digits << 4 | digit(byte) & 15;
-    next_column(next)
-}
-
-// The count does not go on behind a zero, nor to more than there are cells.
-fn take_in_count(known: Known, byte: u8) -> Known {
-    let count = known.wanted;
-    let first = known.column == 6;
-    if byte == b'\n' && !first {
-        return next_line(known, 0, count);
-    }
-    let d = digit(byte) as usize;
-    let grown = plus(plus(count << 3, count << 1), d);
-    if d > 9 || grown > 101 || count == 0 && !first {
-        return known;
-    }
-    let mut next = known;
-    next.wanted = grown;
-    next_column(next)
-}
-
-fn take_in_key(known: Known, byte: u8) -> Known {
-    if byte == byte_in(b"cells=", known.column) {
-        next_column(known)
-    } else {
-        known
-    }
-}
-
-// Takes the byte; or none, where no listing goes on with it.
-fn take(desk: &mut Desk, known: Known, byte: u8) -> Known {
-    if !known.first_line {
-        return take_in_line(desk, known, byte);
-    }
-    if known.column < 6 {
-        take_in_key(known, byte)
-    } else {
-        take_in_count(known, byte)
-    }
-}
-
-fn nothing() -> Known {
-    Known {
-        taken: 0,
-        column: 0,
-        first_line: true,
-        wanted: 0,
-        digits: 0,
-        low: 0,
-        end: 0,
-    }
-}
-
-// Takes the text as far as some listing goes along with it.
-fn take_all(desk: &mut Desk) -> Known {
-    fill(desk, MADE, 0, 0);
-    let n = len(desk, TEXT);
-    let mut known = nothing();
-    for i in 0..n {
-        let byte = byte_at(desk, TEXT, i);
-        known = take(desk, known, byte);
-        if known.taken == i {
-            return known;
+    fn part(&self, at: &At) -> Part {
+        match at {
+            At::Key(_) => Part::Key,
+            At::Count(_) => Part::Count,
+            At::Line(line) => self
+                .column(line.cells.start, line.column)
+                .map_or(Part::LineEnd, |column| column.part),
+            At::Behind => Part::Behind,
         }
     }
-    known
-}
 
-fn part_of_line(cell: usize, column: usize) -> u32 {
-    if column < 4 {
-        return REG;
+    // Reads the text into the buffer, if it is a listing.
+    pub(super) fn read(&self, text: &[u8], buffer: &mut [u8]) -> Result<usize, Stopped> {
+        if buffer.len() / 4 != STATE_WORDS {
+            return Err(Stopped::BadState);
+        }
+        let mut state = State::empty();
+        let mut at = At::Key(0);
+        for (place, byte) in text.iter().enumerate() {
+            let Some(next) = self.take(&at, *byte, &mut state) else {
+                let part = self.part(&at);
+                return Err(Stopped::NotAListing { place, part });
+            };
+            at = next;
+        }
+        let place = text.len();
+        match self.part(&at) {
+            Part::Behind => {
+                state.lay(buffer);
+                Ok(place)
+            }
+            part => Err(Stopped::NotAListing { place, part }),
+        }
     }
-    match if cell < 84 { column } else { plus(column, 4) } {
-        0..=11 => NAME,
-        12..=16 => VAL,
-        17..=24 => VALUE,
-        _ => LINE_END,
-    }
-}
-
-fn part(known: Known) -> u32 {
-    if known.first_line {
-        return if known.column < 6 { KEY } else { COUNT };
-    }
-    if known.wanted == 0 {
-        return BEHIND;
-    }
-    part_of_line(known.low, known.column)
-}
-
-// Reads the text into so many bytes of RIGHT; ENDED has the part in which the reading ended.
-pub(super) fn read(desk: &mut Desk, bytes: usize) -> u64 {
-    if bytes / 4 != 202 {
-        return answer(1, 0);
-    }
-    let known = take_all(desk);
-    let taken = known.taken;
-    let ended = part(known);
-    put(desk, ENDED, 0, ended);
-    let whole = ended == BEHIND && taken == len(desk, TEXT);
-    if whole {
-        lay_state(desk, MADE, RIGHT);
-    }
-    answer(if whole { 0 } else { 19 }, taken)
 }

@@ -1,80 +1,112 @@
-// The only place that calls what is tested. A call is lent a list's words, and none to three bytes more, which must
-// count for nothing; how many goes by the lengths of all the lists.
-use super::desk::{BATCH, Desk, GRANTS, LEFT, LISTED, Row, len, plus};
+// The only place that calls what is tested. A call is lent a list's words, and none to three bytes more; how many goes
+// by the lengths of all the lists.
 
-// An answer is one number, as in the C call: the place times 256, and the reason.
-pub(super) fn answer(reason: u32, place: usize) -> u64 {
-    (place as u64) << 8 | reason as u64
+use super::answers::{Answer, answer_of};
+use std::alloc::{AllocError, Global};
+use std::io;
+
+// What fills a room that a listing is to be written to.
+const FILLER: u8 = 0xa5;
+
+// What a reader's call is lent.
+#[derive(Clone, Copy)]
+pub(super) struct Lists<'a> {
+    pub(super) batch: &'a [u32],
+    pub(super) grants: &'a [u32],
+    pub(super) state: &'a [u32],
 }
 
-// The first n bytes, or all where they are fewer.
-fn part(bytes: &[u8], n: usize) -> &[u8] {
-    if n <= bytes.len() {
-        &bytes[0..n]
-    } else {
-        bytes
+impl Lists<'_> {
+    // How many words these are.
+    fn count(&self) -> usize {
+        self.batch
+            .len()
+            .wrapping_add(self.grants.len())
+            .wrapping_add(self.state.len())
     }
 }
 
-fn part_mut(bytes: &mut [u8], n: usize) -> &mut [u8] {
-    if n <= bytes.len() {
-        &mut bytes[0..n]
-    } else {
-        bytes
+// Words as a call is lent them: the bytes of each, the lowest first, and behind the last word none to three zeros,
+// which must count for nothing.
+#[derive(Drop)]
+pub(super) struct Lent {
+    bytes: Vec<u8>,
+}
+
+impl Lent {
+    fn new(alloc: Global, words: &[u32], more: usize) -> Result<Lent, AllocError> {
+        let mut bytes = vec![in alloc; 0; 4 * words.len() + more % 4]?;
+        let (whole, _) = bytes.as_chunks_mut::<4>();
+        for (place, word) in whole.iter_mut().zip(words) {
+            *place = word.to_le_bytes();
+        }
+        Ok(Lent { bytes })
+    }
+
+    pub(super) fn words(&self, alloc: Global) -> Result<Vec<u32>, AllocError> {
+        let (words, _) = self.bytes.as_chunks::<4>();
+        words
+            .iter()
+            .map(|bytes| u32::from_le_bytes(*bytes))
+            .collect(alloc)
+    }
+
+    // It is just these words, and behind them are still zeros.
+    pub(super) fn holds(&self, words: &[u32]) -> bool {
+        let (whole, behind) = self.bytes.as_chunks::<4>();
+        behind.iter().all(|byte| *byte == 0)
+            && whole
+                .iter()
+                .map(|bytes| u32::from_le_bytes(*bytes))
+                .eq(words.iter().copied())
     }
 }
 
-fn lent(words: usize, more: usize) -> usize {
-    plus(words << 2, more % 4)
+// What a call of the lister told, and what the room then held.
+#[derive(Drop)]
+pub(super) struct Listed {
+    pub(super) told: Answer,
+    room: Vec<u8>,
 }
 
-fn call_read(batch: &[u8], b: usize, grants: &[u8], g: usize, state: &mut [u8], s: usize) -> u64 {
-    let told = reader::read(part(batch, b), part(grants, g), part_mut(state, s));
-    answer(told.reason, told.place)
+impl Listed {
+    // The text stands in front of the room, and behind it all is as it was.
+    pub(super) fn holds(&self, text: &str) -> bool {
+        self.room
+            .strip_prefix(text.as_bytes())
+            .is_some_and(|behind| behind.iter().all(|byte| *byte == FILLER))
+    }
 }
 
-fn call_list(state: &[u8], s: usize, out: &mut [u8], room: usize) -> u64 {
-    let told = lister::list(part(state, s), part_mut(out, room));
-    answer(told.reason, told.place)
+// What a call of the reader told, and what it left of the state.
+#[derive(Drop)]
+pub(super) struct Left {
+    pub(super) told: Answer,
+    pub(super) state: Lent,
 }
 
-// The rows as the slices that a call takes: of a reference to an array the length is known.
-fn lend_read(desk: &Desk, state: &mut Row) -> u64 {
-    let b = len(desk, BATCH);
-    let g = len(desk, GRANTS);
-    let s = len(desk, LEFT);
-    let more = plus(plus(b, g), s);
-    call_read(
-        &desk.lists[BATCH],
-        lent(b, more),
-        &desk.lists[GRANTS],
-        lent(g, more),
-        state,
-        lent(s, more),
-    )
+// An answer of the library as our own.
+fn told(answer: meaning::Answer) -> io::Result<Answer> {
+    match answer {
+        Ok(place) => answer_of(0, place),
+        Err(refusal) => answer_of(refusal.reason as u32, refusal.place),
+    }
 }
 
-fn lend_list(desk: &Desk, out: &mut Row, room: usize) -> u64 {
-    call_list(
-        &desk.lists[LISTED],
-        lent(len(desk, LISTED), room),
-        out,
-        room,
-    )
+// Reads the batch into the state.
+pub(super) fn read(alloc: Global, lists: Lists<'_>) -> io::Result<Left> {
+    let more = lists.count();
+    let batch = Lent::new(alloc, lists.batch, more)?;
+    let grants = Lent::new(alloc, lists.grants, more)?;
+    let mut state = Lent::new(alloc, lists.state, more)?;
+    let told = told(reader::read(&batch.bytes, &grants.bytes, &mut state.bytes))?;
+    Ok(Left { told, state })
 }
 
-// Reads the batch into the state at LEFT.
-pub(super) fn read(desk: &mut Desk) -> u64 {
-    let mut state = desk.lists[LEFT];
-    let told = lend_read(desk, &mut state);
-    desk.lists[LEFT] = state;
-    told
-}
-
-// Lists the state at LISTED into the first bytes of LEFT, as many as the room.
-pub(super) fn list(desk: &mut Desk, room: usize) -> u64 {
-    let mut out = desk.lists[LEFT];
-    let told = lend_list(desk, &mut out, room);
-    desk.lists[LEFT] = out;
-    told
+// Lists the state into a room of so many bytes.
+pub(super) fn list(alloc: Global, state: &[u32], room: usize) -> io::Result<Listed> {
+    let state = Lent::new(alloc, state, room)?;
+    let mut room = vec![in alloc; FILLER; room]?;
+    let told = told(lister::list(&state.bytes, &mut room))?;
+    Ok(Listed { told, room })
 }

@@ -6,55 +6,27 @@
 // and how often each reason was told.
 #![tactic(auto)]
 
-ghost use Rattle.std.specs.Prelude.{◌≡◌, ◌≤◌, length, IfOk};
-
+mod answers;
 mod calls;
-mod desk;
+mod cases;
+mod checks;
 mod listing;
 mod page;
 mod pairs;
+mod state;
 mod tally;
 
-use desk::Desk;
+use cases::Run;
 use std::io;
 use std::io::Read;
 
 // As many bytes as are read; what stands behind them is not looked at.
-const ROOM: usize = 65536;
-
-// Where the array is made, so that no proof but this one has to look at 65,536 zeros.
-fn buffer() -> [u8; ROOM]
-    ensures whole { length result ≡ 65536 }
-{
-    [0; ROOM]
-}
-
-// Reads until the room is full or the input has ended. The answer is how many bytes that is.
-fn read_full<R: Read>(from: &mut R, room: &mut [u8]) -> io::Result<usize>
-    ensures inside { IfOk result (λ got. got ≤ length room.new) }
-{
-    let mut got = 0;
-    while got < room.len() {
-        let more = from.read(&mut room[got..])?;
-        if more == 0 {
-            return Ok(got);
-        }
-        got += more;
-    }
-    Ok(got)
-}
+const MOST_BYTES: u64 = 65536;
 
 fn main(rt: HostRuntime) -> io::Result<()> {
-    let mut desk = Desk {
-        lists: [[0u8; 4096]; 12],
-        rt,
-        printed: Ok(()),
-    };
-    let mut page = buffer();
-    let mut from = rt.stdin();
-    let got = read_full(&mut from, &mut page)?;
-    page::run_page(&mut desk, &page[..got]);
-    tally::tell_reasons(&mut desk);
-    tally::tell_end(&mut desk);
-    desk.printed
+    let alloc = rt.alloc();
+    let page = io::read_to_string(alloc, rt.stdin().take(MOST_BYTES))?;
+    let mut run = Run::new(alloc, rt);
+    run.page(page.as_str())?;
+    run.tell_all()
 }

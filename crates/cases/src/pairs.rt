@@ -2,9 +2,17 @@
 // has a number: by it cell 1 is not marked, or has one of two addresses or one past 2^32; cell 2 is not marked, or has 0
 // to 3; each address is granted in neither memory, in one or in both; and two words write one of the two addresses, a
 // location of 0, 1 or 2, what cell 1 or cell 2 had, or another register.
-use super::calls::answer;
-use super::desk::{BATCH, Desk, GRANTS, LINE, RIGHT, STATE, at, copy, fill, plus, push, put};
-use super::tally::{begin_case, check_stored};
+
+use super::answers::{Answer, Reason, Refusal};
+use super::calls::Lists;
+use super::checks::Checker;
+use super::state::State;
+use std::alloc::{AllocError, Global};
+use std::io;
+
+const TARGET: usize = 1;
+
+const LOCATION: usize = 2;
 
 // The two addresses, as cell 1 has them; and one past 2^32, which without its top bit is the first.
 const HERE: u32 = 0x001000;
@@ -13,163 +21,231 @@ const THERE: u32 = 0x002000;
 
 const PAST: u32 = 0x01001000;
 
-fn put_cell(desk: &mut Desk, list: usize, cell: usize, v: u32) {
-    put(desk, list, cell, v);
-    put(desk, list, plus(cell, 101), 1);
+// What the other register is written with.
+const OTHER: u32 = 0x400400;
+
+// The length of a batch.
+const END: usize = 4;
+
+// The bits of a word that are its value.
+const VALUE: u32 = 0xffffff;
+
+// An address with just its 256 bytes, in that memory.
+#[derive(Clone, Copy)]
+struct Grant {
+    // Set in a case's number of grants where this is one of them.
+    bit: u32,
+    address: u32,
+    memory: u32,
 }
 
-fn lay_state(desk: &mut Desk, target: u32, location: u32) {
-    fill(desk, STATE, 0, 202);
-    match target {
-        0 => {}
-        1 => put_cell(desk, STATE, 1, HERE),
-        2 => put_cell(desk, STATE, 1, THERE),
-        _ => put_cell(desk, STATE, 1, PAST),
-    }
-    if location < 4 {
-        put_cell(desk, STATE, 2, location << 20);
-    }
-}
-
-// The address with just its 256 bytes, in that memory, if the bit is set.
-fn lay_grant(desk: &mut Desk, bit: u32, value: u32, memory: u32) {
-    if bit % 2 == 1 {
-        push(desk, GRANTS, 1);
-        push(desk, GRANTS, value << 8);
-        push(desk, GRANTS, 0x100);
-        push(desk, GRANTS, 0x100);
-        push(desk, GRANTS, memory);
+impl Grant {
+    fn words(self) -> [u32; 5] {
+        [1, self.address << 8, 0x100, 0x100, self.memory]
     }
 }
 
-// The first address in memory 0 and in memory 1, then the second, a bit for each.
-fn lay_grants(desk: &mut Desk, granted: u32) {
-    fill(desk, GRANTS, 0, 0);
-    lay_grant(desk, granted, HERE, 0);
-    lay_grant(desk, granted / 2, HERE, 1);
-    lay_grant(desk, granted / 4, THERE, 0);
-    lay_grant(desk, granted / 8, THERE, 1);
+const GRANTS: [Grant; 4] = [
+    Grant {
+        bit: 1,
+        address: HERE,
+        memory: 0,
+    },
+    Grant {
+        bit: 2,
+        address: HERE,
+        memory: 1,
+    },
+    Grant {
+        bit: 4,
+        address: THERE,
+        memory: 0,
+    },
+    Grant {
+        bit: 8,
+        address: THERE,
+        memory: 1,
+    },
+];
+
+fn is_granted(granted: &[Grant], address: u32, memory: u32) -> bool {
+    granted
+        .iter()
+        .any(|grant| grant.address == address && grant.memory == memory)
 }
 
-fn word_of(desk: &Desk, kind: u32) -> u32 {
-    match kind % 8 {
-        0 => 0x3f400400,
-        1 => 0x50000000 | HERE,
-        2 => 0x50000000 | THERE,
-        3 => 0x50000000 | at(desk, STATE, 1) & 0xffffff,
-        4 => 0x51000000,
-        5 => 0x51100000,
-        6 => 0x51200000,
-        _ => 0x51000000 | at(desk, STATE, 2) & 0xffffff,
-    }
-}
-
-fn cell_of(word: u32) -> usize {
-    match word >> 24 {
-        0x50 => 1,
-        0x51 => 2,
-        _ => 0,
-    }
-}
-
-// In which memories an address is granted, a bit for each.
-fn granted_in(granted: u32, value: u32) -> u32 {
-    match value {
-        HERE => granted % 4,
-        THERE => granted / 4 % 4,
-        _ => 0,
-    }
-}
-
-// The memory that a location names, as its bit; 2 and 3 name none, and a cell that is not marked holds 0.
-fn memory_named(location: u32) -> u32 {
-    match location / 0x100000 % 4 {
-        0 => 1,
-        1 => 2,
-        _ => 0,
+// The memory that the location in a value of cell 2 names: 2 and 3 name none.
+fn memory_named(value: u32) -> Option<u32> {
+    match value / 0x100000 % 4 {
+        0 => Some(0),
+        1 => Some(1),
+        _ => None,
     }
 }
 
-// What speaks against a word by itself: a location of 2 or 3, or an address that is granted in neither memory.
-fn word_reason(granted: u32, word: u32) -> u32 {
-    let v = word & 0xffffff;
-    match cell_of(word) {
-        1 => { if granted_in(granted, v) == 0 { 9 } else { 0 } }
-        2 => { if v / 0x100000 % 4 > 1 { 8 } else { 0 } }
-        _ => 0,
+// What a word writes.
+#[derive(Clone, Copy)]
+enum Write {
+    Other,
+    Target(u32),
+    Location(u32),
+}
+
+impl Write {
+    fn by(kind: u32, state: &State) -> Write {
+        match kind % 8 {
+            0 => Write::Other,
+            1 => Write::Target(HERE),
+            2 => Write::Target(THERE),
+            3 => Write::Target(state.get(TARGET).unwrap_or(0) & VALUE),
+            4 => Write::Location(0),
+            5 => Write::Location(0x100000),
+            6 => Write::Location(0x200000),
+            _ => Write::Location(state.get(LOCATION).unwrap_or(0) & VALUE),
+        }
+    }
+
+    fn word(self) -> u32 {
+        match self {
+            Write::Other => 0x3f000000 | OTHER,
+            Write::Target(value) => 0x50000000 | value,
+            Write::Location(value) => 0x51000000 | value,
+        }
+    }
+
+    fn store(self, state: &mut State) {
+        match self {
+            Write::Other => state.store(0, OTHER),
+            Write::Target(value) => state.store(TARGET, value),
+            Write::Location(value) => state.store(LOCATION, value),
+        }
+    }
+
+    fn is_of_pair(self) -> bool {
+        match self {
+            Write::Other => false,
+            Write::Target(_) | Write::Location(_) => true,
+        }
+    }
+
+    // What speaks against the word by itself: a location of 2 or 3, or an address that is granted in neither memory.
+    fn judge(self, granted: &[Grant]) -> Result<(), Reason> {
+        match self {
+            Write::Target(value) if !granted.iter().any(|grant| grant.address == value) => {
+                Err(Reason::NotGranted)
+            }
+            Write::Location(value) if memory_named(value).is_none() => Err(Reason::BadValue),
+            _ => Ok(()),
+        }
     }
 }
 
-// What speaks against the pair at RIGHT, if a word wrote one of the two cells.
-fn pair_reason(desk: &Desk, granted: u32, first: u32, second: u32) -> u32 {
-    let memories = granted_in(granted, at(desk, RIGHT, 1));
-    let memory = memory_named(at(desk, RIGHT, 2));
-    if cell_of(first) == 0 && cell_of(second) == 0 || at(desk, RIGHT, 102) == 0 {
-        return 0;
-    }
-    if memories & memory == 0 { 14 } else { 0 }
+#[derive(Drop)]
+struct Case {
+    state: State,
+    granted: Vec<Grant>,
+    writes: [Write; 2],
 }
 
-// The answer on the two words, and on a header that counts a word more than there are.
-fn due(desk: &Desk, granted: u32, first: u32, second: u32, more: bool) -> u64 {
-    let before = word_reason(granted, first);
-    if before != 0 {
-        return answer(before, 2);
+impl Case {
+    fn numbered(alloc: Global, number: u32) -> Result<Case, AllocError> {
+        let mut state = State::empty();
+        match number % 4 {
+            0 => {}
+            1 => state.store(TARGET, HERE),
+            2 => state.store(TARGET, THERE),
+            _ => state.store(TARGET, PAST),
+        }
+        let location = number / 4 % 5;
+        if location < 4 {
+            state.store(LOCATION, location << 20);
+        }
+        Ok(Case {
+            state,
+            granted: GRANTS
+                .into_iter()
+                .filter(|grant| number / 20 & grant.bit != 0)
+                .collect(alloc)?,
+            writes: [
+                Write::by(number / 320, &state),
+                Write::by(number / 2560, &state),
+            ],
+        })
     }
-    let behind = word_reason(granted, second);
-    if behind != 0 {
-        return answer(behind, 3);
+
+    // The state with the writes.
+    fn written(&self) -> State {
+        let mut state = self.state;
+        for write in self.writes {
+            write.store(&mut state);
+        }
+        state
     }
-    if more {
-        return answer(10, 4);
+
+    // What speaks against the pair of the state with the writes, if one of them is of the pair.
+    fn judge_pair(&self) -> Result<(), Reason> {
+        let written = self.written();
+        let Some(address) = written.get(TARGET) else {
+            return Ok(());
+        };
+        // A cell that is not marked holds 0.
+        let memory = memory_named(written.get(LOCATION).unwrap_or(0));
+        let fine = memory.is_some_and(|memory| is_granted(&self.granted, address, memory));
+        if fine || !self.writes.iter().any(|write| write.is_of_pair()) {
+            Ok(())
+        } else {
+            Err(Reason::BadPair)
+        }
     }
-    answer(pair_reason(desk, granted, first, second), 4)
+
+    // The answer on the two words, behind a header that counts right, or a word more than there are.
+    fn answer(&self, more: bool) -> Answer {
+        for (write, place) in self.writes.iter().zip(2..) {
+            write
+                .judge(&self.granted)
+                .map_err(|reason| Refusal::at(reason, place))?;
+        }
+        if more {
+            return Err(Refusal::at(Reason::EndsInside, END));
+        }
+        self.judge_pair()
+            .map_err(|reason| Refusal::at(reason, END))?;
+        Ok(END)
+    }
+
+    fn check(&self, alloc: Global, checker: &mut Checker, more: bool) -> io::Result<()> {
+        let header = if more { 0x0004043c } else { 0x0003043c };
+        let [first, second] = self.writes;
+        let batch = [header, 0x00010000, first.word(), second.word()];
+        let grants: Vec<u32> = self
+            .granted
+            .iter()
+            .flat_map(|grant| grant.words())
+            .collect(alloc)?;
+        let lists = Lists {
+            batch: &batch,
+            grants: &grants,
+            state: self.state.words(),
+        };
+        let answer = self.answer(more);
+        let left = if answer.is_ok() {
+            self.written()
+        } else {
+            self.state
+        };
+        checker.check_stored(lists, answer, left.words())
+    }
 }
 
-fn lay_batch(desk: &mut Desk, header: u32, first: u32, second: u32) {
-    fill(desk, BATCH, 0, 0);
-    push(desk, BATCH, header);
-    push(desk, BATCH, 0x00010000);
-    push(desk, BATCH, first);
-    push(desk, BATCH, second);
-}
-
-// The words on the state and the grants that are there, from a header that counts right or not.
-fn check_words(desk: &mut Desk, granted: u32, first: u32, second: u32, more: bool) {
-    lay_batch(
-        desk,
-        if more { 0x0004043c } else { 0x0003043c },
-        first,
-        second,
-    );
-    copy(desk, STATE, RIGHT);
-    put_cell(desk, RIGHT, cell_of(first), first & 0xffffff);
-    put_cell(desk, RIGHT, cell_of(second), second & 0xffffff);
-    let stated = due(desk, granted, first, second, more);
-    if stated % 256 != 0 {
-        copy(desk, STATE, RIGHT);
+// As many cases, and every seventh once more with a header that counts too many words.
+pub(super) fn go_through(alloc: Global, checker: &mut Checker, cases: u32) -> io::Result<()> {
+    for number in 0..cases {
+        checker.tally.begin_case(number);
+        let case = Case::numbered(alloc, number)?;
+        case.check(alloc, checker, false)?;
+        if number % 7 == 0 {
+            case.check(alloc, checker, true)?;
+        }
     }
-    check_stored(desk, stated);
-}
-
-// The case of that number, and every seventh once more with a header that counts too many words.
-fn check_case(desk: &mut Desk, k: u32) {
-    let granted = k / 20 % 16;
-    begin_case(desk, k);
-    lay_state(desk, k % 4, k / 4 % 5);
-    lay_grants(desk, granted);
-    let first = word_of(desk, k / 320);
-    let second = word_of(desk, k / 2560);
-    check_words(desk, granted, first, second, false);
-    if k % 7 == 0 {
-        check_words(desk, granted, first, second, true);
-    }
-}
-
-// As many cases as the line says.
-pub(super) fn go_through(desk: &mut Desk) {
-    let n = at(desk, LINE, 0);
-    for k in 0..n {
-        check_case(desk, k);
-    }
+    Ok(())
 }

@@ -2,63 +2,117 @@
 // empty state and the grants that the batches of bench/run need. bench/engine counts its instructions.
 #![tactic(auto)]
 
-ghost use Rattle.std.specs.Prelude.{◌≡◌, ◌≤◌, length, IfOk};
-
-use meaning::Answer;
-use std::io;
+use engine::Closed;
+use std::alloc::{AllocError, Global};
 use std::io::Read;
-
-// Role, start, length, reach and memory: a target at 00100000h, and a scaler's memory at 00200000h and at 00300000h.
-const GRANTS: [u8; 60] = *b"\
-    \x01\x00\x00\x00\x00\x00\x10\x00\x00\x00\x08\x00\x00\x00\x08\x00\x00\x00\x00\x00\
-    \x02\x00\x00\x00\x00\x00\x20\x00\x00\x00\x08\x00\x00\x10\x00\x00\x00\x00\x00\x00\
-    \x03\x00\x00\x00\x00\x00\x30\x00\x00\x00\x08\x00\x00\x10\x00\x00\x00\x00\x00\x00\
-    ";
-
-fn feed(batch: &[u8], grants: &[u8]) -> Answer {
-    let empty = [0u8; 808];
-    let mut engine = engine::open(&empty, grants);
-    let words = batch.len() / 4;
-    let mut i = 0;
-    while i < words {
-        engine = engine::feed(engine, words::word(batch, i));
-        i += 1;
-    }
-    engine::close(engine).answer
-}
-
-fn print(rt: HostRuntime, answer: Answer) -> io::Result<()> {
-    println!(rt; "reason={} place={}", answer.reason, answer.place)
-}
+use std::{fmt, io};
 
 // As many bytes as are read; what stands behind them is not looked at.
-const ROOM: usize = 65536;
+const MOST_BYTES: u64 = 65536;
 
-// Where the array is made, so that no proof but this one has to look at 65,536 zeros.
-fn buffer() -> [u8; ROOM]
-    ensures whole { length result ≡ 65536 }
-{
-    [0; ROOM]
+// The bytes of a state.
+const STATE_BYTES: usize = 808;
+
+// What a grant's memory is for.
+#[derive(Clone, Copy)]
+enum Role {
+    Target = 1,
+    FirstScaler = 2,
+    SecondScaler = 3,
 }
 
-// Reads until the room is full or the input has ended. The answer is how many bytes that is.
-fn read_full<R: Read>(from: &mut R, room: &mut [u8]) -> io::Result<usize>
-    ensures inside { IfOk result (λ got. got ≤ length room.new) }
-{
-    let mut got = 0;
-    while got < room.len() {
-        let more = from.read(&mut room[got..])?;
-        if more == 0 {
-            return Ok(got);
-        }
-        got += more;
+#[derive(Clone, Copy)]
+struct Grant {
+    role: Role,
+    start: u32,
+    length: u32,
+    reach: u32,
+    memory: u32,
+}
+
+// A target at 00100000h, and a scaler's memory at 00200000h and at 00300000h.
+const GRANTS: [Grant; 3] = [
+    Grant {
+        role: Role::Target,
+        start: 0x0010_0000,
+        length: 0x0008_0000,
+        reach: 0x0008_0000,
+        memory: 0,
+    },
+    Grant {
+        role: Role::FirstScaler,
+        start: 0x0020_0000,
+        length: 0x0008_0000,
+        reach: 0x0000_1000,
+        memory: 0,
+    },
+    Grant {
+        role: Role::SecondScaler,
+        start: 0x0030_0000,
+        length: 0x0008_0000,
+        reach: 0x0000_1000,
+        memory: 0,
+    },
+];
+
+impl Grant {
+    fn words(self) -> [u32; 5] {
+        [
+            self.role as u32,
+            self.start,
+            self.length,
+            self.reach,
+            self.memory,
+        ]
     }
-    Ok(got)
+}
+
+// The grants as a call takes them.
+fn grant_bytes(alloc: Global) -> Result<Vec<u8>, AllocError> {
+    let mut bytes = Vec::new(alloc);
+    for grant in GRANTS {
+        for word in grant.words() {
+            bytes.extend_from_slice(&word.to_le_bytes())?;
+        }
+    }
+    Ok(bytes)
+}
+
+// What closing told: the number of the reason, 0 for success, and the place.
+#[derive(Clone, Copy)]
+struct Told {
+    reason: u32,
+    place: usize,
+}
+
+impl From<Closed> for Told {
+    fn from(closed: Closed) -> Told {
+        Told {
+            reason: closed.reason,
+            place: closed.place,
+        }
+    }
+}
+
+impl fmt::Display for Told {
+    fn fmt<W: fmt::Write>(&self, f: &mut fmt::Formatter<W>) -> fmt::Result {
+        write!(f, "reason={} place={}", self.reason, self.place)
+    }
+}
+
+// The only place that calls the engine. Bytes past the last whole word are not fed.
+fn feed(batch: &[u8], grants: &[u8]) -> Told {
+    let mut engine = engine::open(&[0; STATE_BYTES], grants);
+    let (words, _) = batch.as_chunks::<4>();
+    // Kept: a loop, since a fold over engine::feed costs a third more instructions, more than bench/engine allows.
+    for word in words {
+        engine = engine::feed(engine, u32::from_le_bytes(*word));
+    }
+    Told::from(engine::close(engine))
 }
 
 fn main(rt: HostRuntime) -> io::Result<()> {
-    let mut bytes = buffer();
-    let mut from = rt.stdin();
-    let got = read_full(&mut from, &mut bytes)?;
-    print(rt, feed(&bytes[..got], &GRANTS))
+    let mut batch = Vec::new(rt.alloc());
+    rt.stdin().take(MOST_BYTES).read_to_end(&mut batch)?;
+    println!(rt; "{}", feed(&batch, &grant_bytes(rt.alloc())?))
 }
