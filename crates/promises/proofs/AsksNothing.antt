@@ -10,12 +10,11 @@ use lib.Dec.{T}
 use lib.ListN.{length}
 use Rattle.meaning.specs.Words.{words_of}
 use Rattle.meaning.specs.Registers.{cells, first_video, end_video, sections_3d}
-use Rattle.meaning.specs.Grants.{most_grants, grants_of, grants_fine}
+use Rattle.meaning.specs.Grants.{grants_of, grants_fine}
 use Rattle.meaning.specs.State.{state_words, marked, well_formed}
 use Rattle.meaning.specs.Writer.{written, need_among}
 use Rattle.keeping.specs.Keeping.{no_bounds, beginnings}
-use Rattle.pair.specs.Judged.{KnownLocal}
-use Rattle.grants.specs.Kept.{Bounded}
+use Rattle.pair.specs.Judged.{KnownBy}
 use Rattle.rows_video.specs.Scalers.{IsScaler}
 use Rattle.headers.specs.Told.{IsGroup}
 use Rattle.cells.specs.Rows.{IsRow}
@@ -24,6 +23,7 @@ use Rattle.emitter_3d.specs.Emitted.{words_of_sections, Narrow}
 use Rattle.lines.specs.Lines.{digit_pairs}
 use Rattle.irangelda.proofs.AsksNothing as calls
 use Rattle.irangelda.proofs.AsksNothing.{AsksNothing, nothing_asked}
+use Rattle.meaning.proofs.Reason.at.Reads as at
 use Rattle.fields.proofs.count.Reads as count
 use Rattle.fields.proofs.offset.Reads as offset
 use Rattle.fields.proofs.sub_type.Reads as sub_type
@@ -39,8 +39,8 @@ use Rattle.states.proofs.load.Reads as load
 use Rattle.states.proofs.store.Reads as store
 use Rattle.registers.proofs.name_of.Reads as name_of
 use Rattle.registers.proofs.offset_of.Reads as offset_of
-use Rattle.grants.proofs.part_of.Reads as part_of
-use Rattle.grants.proofs.which.Reads as which
+use Rattle.grants.proofs.Kept.part_of.Reads as part_of
+use Rattle.grants.proofs.RoleGrants.which.Reads as which
 use Rattle.keeping.proofs.begin.Reads as begin
 use Rattle.keeping.proofs.place.Reads as place
 use Rattle.pair.proofs.which.Reads as pair_which
@@ -91,7 +91,7 @@ use Rattle.emitter_3d.proofs.emit_3d.Reads as emit_3d
 use Rattle.emitter.proofs.emit.Reads as emit
 use Rattle.lines.proofs.put_line_3d.Reads as put_line_3d
 use Rattle.lines.proofs.put_line_video.Reads as put_line_video
-use Rattle.asking.proofs.part_of.Reads as byte_part_of
+use Rattle.asking.proofs.Stored.part_of.Reads as byte_part_of
 use Rattle.asking.proofs.ask.Reads as ask
 use Rattle.engine.proofs.open.Reads as engine_open
 use Rattle.engine.proofs.feed.Reads as engine_feed
@@ -195,6 +195,11 @@ asks_nothing = (
 
 -- ==== What they are made of
 
+-- ---- refusals
+
+pub at_asks : AsksNothing at.Asked
+at_asks κs a = nothing_asked
+
 -- ---- fields
 
 pub count_asks : AsksNothing count.Asked
@@ -253,8 +258,8 @@ offset_of_asks κs a = asks_this
 pub part_of_asks : AsksExactly part_of.Asked (λ _ (_, (role, _)). role < 4)
 part_of_asks κs a = asks_this
 
-pub which_asks : AsksExactly which.Asked (λ _ (_, (_, (_, (part, _)))). part.to ≤ most_grants)
-which_asks κs a = asks_this
+pub which_asks : AsksNothing which.Asked
+which_asks κs a = nothing_asked
 
 -- ---- keeping
 
@@ -267,15 +272,13 @@ place_asks κs a = asks_this
 
 -- ---- pair
 
-pub pair_which_asks : AsksExactly pair_which.Asked (λ _ (state, (_, (_, (_, (part, _))))). (length (words_of state.now) ≡ state_words) × (part.to ≤ most_grants))
+pub pair_which_asks : AsksExactly pair_which.Asked (λ _ (state, _). length (words_of state.now) ≡ state_words)
 pair_which_asks κs a = asks_this
 
-pub pair_fine_asks : AsksExactly pair_fine.Asked (λ _ (state, (starts, (lasts, (numbers, (part, (known, _)))))).
-    (length (words_of state.now) ≡ state_words) × ((part.to ≤ most_grants) × (known ≡ true → KnownLocal starts.now lasts.now numbers.now part (words_of state.now))))
+pub pair_fine_asks : AsksExactly pair_fine.Asked (λ _ (state, (part, (known, _))). (length (words_of state.now) ≡ state_words) × (known ≡ true → KnownBy part.now (words_of state.now)))
 pair_fine_asks κs a = asks_this
 
-pub pair_kept_asks : AsksExactly pair_kept.Asked (λ _ (_, (_, (own, (starts, (lasts, (numbers, (part, (known, _)))))))).
-    (length own.now ≡ state_words) × ((part.to ≤ most_grants) × (known ≡ true → KnownLocal starts.now lasts.now numbers.now part own.now)))
+pub pair_kept_asks : AsksExactly pair_kept.Asked (λ _ (_, (_, (own, (part, (known, _))))). (length own.now ≡ state_words) × (known ≡ true → KnownBy part.now own.now))
 pair_kept_asks κs a = asks_this
 
 -- ---- rules
@@ -320,7 +323,7 @@ alpha_constants_reason_asks κs a = nothing_asked
 pub target_address_asks : AsksExactly target_address.Asked (λ _ (value, _). value < 2 ^ 24)
 target_address_asks κs a = asks_this
 
-pub target_address_reason_asks : AsksExactly target_address_reason.Asked (λ _ (value, (_, (_, (_, (part, _))))). (value < 2 ^ 24) × (part.to ≤ most_grants))
+pub target_address_reason_asks : AsksExactly target_address_reason.Asked (λ _ (value, _). value < 2 ^ 24)
 target_address_reason_asks κs a = asks_this
 
 pub location_reason_asks : AsksNothing location_reason.Asked
@@ -358,11 +361,11 @@ sub_picture_reason_asks κs a = nothing_asked
 pub scaler_address_asks : AsksNothing scaler_address.Asked
 scaler_address_asks κs a = nothing_asked
 
-pub first_address_reason_asks : AsksExactly first_address_reason.Asked (λ _ (_, (_, (_, (_, (part, _))))). part.to ≤ most_grants)
-first_address_reason_asks κs a = asks_this
+pub first_address_reason_asks : AsksNothing first_address_reason.Asked
+first_address_reason_asks κs a = nothing_asked
 
-pub address_reason_asks : AsksExactly address_reason.Asked (λ _ (_, (_, (_, (_, (part, _))))). part.to ≤ most_grants)
-address_reason_asks κs a = asks_this
+pub address_reason_asks : AsksNothing address_reason.Asked
+address_reason_asks κs a = nothing_asked
 
 pub destination_stride_reason_asks : AsksNothing destination_stride_reason.Asked
 destination_stride_reason_asks κs a = nothing_asked
@@ -380,42 +383,42 @@ group_of_asks κs a = nothing_asked
 
 -- ---- judging
 
-pub judge_parameter_asks : AsksExactly judge_parameter.Asked (λ _ (group, (_, (value, (_, (_, (_, (part, _))))))). IsGroup group × ((value < 2 ^ 24) × (part.to ≤ most_grants)))
+pub judge_parameter_asks : AsksExactly judge_parameter.Asked (λ _ (group, (_, (value, _))). IsGroup group × (value < 2 ^ 24))
 judge_parameter_asks κs a = asks_this
 
 pub overlay_word_asks : AsksExactly overlay_word.Asked (λ _ (index, _). index < 3)
 overlay_word_asks κs a = asks_this
 
-pub scaler_word_asks : AsksExactly scaler_word.Asked (λ _ (index, (_, (_, (_, (_, (part, _)))))). (index < 7) × (part.to ≤ most_grants))
+pub scaler_word_asks : AsksExactly scaler_word.Asked (λ _ (index, _). index < 7)
 scaler_word_asks κs a = asks_this
 
 -- ---- cells
 
-pub fine_asks : AsksExactly fine.Asked (λ _ (state, (cell, (row, (_, (_, (_, (part, _))))))). T (well_formed (words_of state.now)) × (IsRow row cell.0 × (part.to ≤ most_grants)))
+pub fine_asks : AsksExactly fine.Asked (λ _ (state, (cell, (row, _))). T (well_formed (words_of state.now)) × IsRow row cell.0)
 fine_asks κs a = asks_this
 
 -- ---- bodies
 
-pub take_parameters_asks : AsksExactly take_parameters.Asked (λ _ (batch, (first, (end, (group, (_, (_, (_, (part, _)))))))). Places first end batch.now × (IsGroup group × (part.to ≤ most_grants)))
+pub take_parameters_asks : AsksExactly take_parameters.Asked (λ _ (batch, (first, (end, (group, _)))). Places first end batch.now × IsGroup group)
 take_parameters_asks κs a = asks_this
 
 pub take_overlay_asks : AsksExactly take_overlay.Asked (λ _ (batch, (first, (end, (index, _)))). Places first end batch.now × (index + (end - first) ≤ 3))
 take_overlay_asks κs a = asks_this
 
-pub take_scaler_asks : AsksExactly take_scaler.Asked (λ _ (batch, (first, (end, (base, (index, (_, (_, (_, (part, _))))))))). Places first end batch.now × ((index + (end - first) ≤ 7) × (IsScaler base.0 × (part.to ≤ most_grants))))
+pub take_scaler_asks : AsksExactly take_scaler.Asked (λ _ (batch, (first, (end, (base, (index, _))))). Places first end batch.now × ((index + (end - first) ≤ 7) × IsScaler base.0))
 take_scaler_asks κs a = asks_this
 
 -- ---- packets
 
-pub read_packet_asks : AsksExactly read_packet.Asked (λ _ (batch, (at, (_, (_, (_, (bounds, _)))))). (at < length batch.now / 4) × Bounded bounds.now)
+pub read_packet_asks : AsksExactly read_packet.Asked (λ _ (batch, (at, _)). at < length batch.now / 4)
 read_packet_asks κs a = asks_this
 
-pub read_packets_asks : AsksExactly read_packets.Asked (λ _ (_, (_, (_, (_, (bounds, _))))). Bounded bounds.now)
-read_packets_asks κs a = asks_this
+pub read_packets_asks : AsksNothing read_packets.Asked
+read_packets_asks κs a = nothing_asked
 
 -- ---- search
 
-pub lowest_bad_asks : AsksExactly lowest_bad.Asked (λ _ (state, (_, (_, (_, (bounds, _))))). T (well_formed (words_of state.now)) × Bounded bounds.now)
+pub lowest_bad_asks : AsksExactly lowest_bad.Asked (λ _ (state, _). T (well_formed (words_of state.now)))
 lowest_bad_asks κs a = asks_this
 
 -- ---- needs

@@ -11,3 +11,4 @@ pub mod Size
 pub mod OneAnswer
 pub mod Promises
 pub mod Switches
+pub mod Results

@@ -8,9 +8,19 @@ use Prim.Native.Nat.{ℕ}
 use native.Mathlib.Omega.{arith}
 use Rattle.meaning.specs.Answers.{Answer}
 use Rattle.meaning.specs.Grants.{Terms}
+use Rattle.std.specs.Prelude.{Result}
+use Rattle.meaning.specs.declared.Cell.{Cell}
+use Rattle.meaning.specs.declared.Reason.{Reason}
+use Rattle.grants.specs.declared.Kept.{Kept}
+use Rattle.grants.specs.declared.RoleGrants.{RoleGrants}
+use Rattle.grants.specs.Held.{IsRole, IsKept}
 use Rattle.grants.proofs.Keeping.{part_some, kept_some}
+use Rattle.judging.specs.declared.Judged.{Judged}
+use Rattle.engine.specs.declared.Closed.{Closed}
+use Rattle.promises.proofs.Results.{one_verdict, one_result, one_asked}
 use Rattle.rows_video.specs.Scalers.{first}
 use Rattle.rows_video.proofs.Scalers.{the_scaler}
+use Rattle.meaning.proofs.Reason.at.Reads as at
 use Rattle.fields.proofs.count.Reads as count
 use Rattle.fields.proofs.offset.Reads as offset
 use Rattle.fields.proofs.sub_type.Reads as sub_type
@@ -36,8 +46,8 @@ use Rattle.states.proofs.load.Reads as load
 use Rattle.states.proofs.store.Reads as store
 use Rattle.states.proofs.well_formed.Reads as well_formed
 use Rattle.states.proofs.marked_between.Reads as marked_between
-use Rattle.grants.proofs.part_of.Reads as part_of
-use Rattle.grants.proofs.which.Reads as which
+use Rattle.grants.proofs.Kept.part_of.Reads as part_of
+use Rattle.grants.proofs.RoleGrants.which.Reads as which
 use Rattle.rows_3d.proofs.alpha_constants_reason.Reads as alpha_constants_reason
 use Rattle.rows_3d.proofs.target_address.Reads as target_address
 use Rattle.rows_3d.proofs.target_address_reason.Reads as target_address_reason
@@ -73,7 +83,7 @@ use Rattle.pair.proofs.which.Reads as pair_which
 use Rattle.pair.proofs.fine.Reads as pair_fine
 use Rattle.pair.proofs.kept.Reads as pair_kept
 use Rattle.asking.specs.Asked.{capped}
-use Rattle.asking.proofs.part_of.Reads as byte_part_of
+use Rattle.asking.proofs.Stored.part_of.Reads as byte_part_of
 use Rattle.asking.proofs.ask.Reads as ask
 use Rattle.engine.proofs.open.Reads as engine_open
 use Rattle.engine.proofs.feed.Reads as engine_feed
@@ -109,6 +119,11 @@ one_answer p q = p ∙ sym q
 -- a contract that allows one answer
 abbrev Determined {ℓ} : {K : Type ℓ} {A R S : K → Type ℓ} (L : (κ : K) → A κ → R κ → S κ → Type ℓ) → Type ℓ
 Determined L = (κs : _) (a : _) (r r' : _) (s s' : _) → L κs a r s → L κs a r' s' → r ≡ r'
+
+-- ---- refusals
+
+pub at_one : Determined at.Learnt
+at_one κs a r r' s s' p q = one_answer p q
 
 -- ---- fields
 
@@ -186,77 +201,86 @@ marked_between_one κs a r r' s s' p q = one_answer p q
 
 -- ---- grants
 
-pub part_of_one : Determined part_of.Learnt
-part_of_one κs a r r' s s' p q = one_answer p q
+-- all that there is of it at run time
+pub part_of_one : (κs : _) (a : _) (r r' : _) (s s' : _) → part_of.Learnt κs a r s → part_of.Learnt κs a r' s'
+    → (r.starts ≡ r'.starts) × (r.lasts ≡ r'.lasts) × (r.numbers ≡ r'.numbers) × (r.part ≡ r'.part)
+part_of_one κs a r r' s s' p q = (one_answer p.starts q.starts, one_answer p.lasts q.lasts, one_answer p.numbers q.numbers, one_answer p.part q.part)
 
 pub which_one : Determined which.Learnt
 which_one κs a r r' s s' p q = one_answer p q
 
 -- ---- rows
 
+-- some terms that a role's grants, or all that are kept, are the kept ones of
+role_some : (role : ℕ) (r : RoleGrants) → (g : Terms) × IsRole g role r
+role_some role r = part_some role r.starts.now r.lasts.now r.part
+
+all_some : (k : Kept) → (g : Terms) × IsKept g k
+all_some k = kept_some k.starts.now k.lasts.now k.bounds.now
+
 -- a contract that holds for any terms is taken at those without a grant; one that asks what is kept, at terms that are kept so
 abbrev ungranted : Terms
 ungranted = record { grants = [] }
 
 pub alpha_constants_reason_one : Determined alpha_constants_reason.Learnt
-alpha_constants_reason_one κs a r r' s s' p q = one_answer (p ungranted) (q ungranted)
+alpha_constants_reason_one κs a r r' s s' p q = one_verdict r r' (one_answer (p ungranted) (q ungranted))
 
 pub target_address_one : Determined target_address.Learnt
 target_address_one κs a r r' s s' p q = one_answer p q
 
 pub target_address_reason_one : Determined target_address_reason.Learnt
 target_address_reason_one κs a r r' s s' p q =
-    let k = part_some 1 a.1.0.now a.1.1.0.now a.1.1.1.1.0 in
-    one_answer (p k.0 k.1) (q k.0 k.1)
+    let k = role_some 1 a.1.0.now in
+    one_verdict r r' (one_answer (p k.0 k.1) (q k.0 k.1))
 
 pub location_reason_one : Determined location_reason.Learnt
-location_reason_one κs a r r' s s' p q = one_answer (p ungranted) (q ungranted)
+location_reason_one κs a r r' s s' p q = one_verdict r r' (one_answer (p ungranted) (q ungranted))
 
 pub format_reason_one : Determined format_reason.Learnt
-format_reason_one κs a r r' s s' p q = one_answer (p ungranted) (q ungranted)
+format_reason_one κs a r r' s s' p q = one_verdict r r' (one_answer (p ungranted) (q ungranted))
 
 pub stage_reason_one : Determined stage_reason.Learnt
-stage_reason_one κs a r r' s s' p q = one_answer (p ungranted 4 (omega arith) (omega arith)) (q ungranted 4 (omega arith) (omega arith))
+stage_reason_one κs a r r' s s' p q = one_verdict r r' (one_answer (p ungranted 4 (omega arith) (omega arith)) (q ungranted 4 (omega arith) (omega arith)))
 
 pub levels_reason_one : Determined levels_reason.Learnt
-levels_reason_one κs a r r' s s' p q = one_answer (p ungranted 0 (omega arith)) (q ungranted 0 (omega arith))
+levels_reason_one κs a r r' s s' p q = one_verdict r r' (one_answer (p ungranted 0 (omega arith)) (q ungranted 0 (omega arith)))
 
 pub filters_reason_one : Determined filters_reason.Learnt
-filters_reason_one κs a r r' s s' p q = one_answer (p ungranted 0 (omega arith)) (q ungranted 0 (omega arith))
+filters_reason_one κs a r r' s s' p q = one_verdict r r' (one_answer (p ungranted 0 (omega arith)) (q ungranted 0 (omega arith)))
 
 pub mapping_reason_one : Determined mapping_reason.Learnt
-mapping_reason_one κs a r r' s s' p q = one_answer (p ungranted 0 (omega arith)) (q ungranted 0 (omega arith))
+mapping_reason_one κs a r r' s s' p q = one_verdict r r' (one_answer (p ungranted 0 (omega arith)) (q ungranted 0 (omega arith)))
 
 pub overlay_reason_one : Determined overlay_reason.Learnt
-overlay_reason_one κs a r r' s s' p q = one_answer (p ungranted 84 (omega arith) (omega arith)) (q ungranted 84 (omega arith) (omega arith))
+overlay_reason_one κs a r r' s s' p q = one_verdict r r' (one_answer (p ungranted 84 (omega arith) (omega arith)) (q ungranted 84 (omega arith) (omega arith)))
 
 pub alpha_select_reason_one : Determined alpha_select_reason.Learnt
-alpha_select_reason_one κs a r r' s s' p q = one_answer (p ungranted) (q ungranted)
+alpha_select_reason_one κs a r r' s s' p q = one_verdict r r' (one_answer (p ungranted) (q ungranted))
 
 pub deinterlace_reason_one : Determined deinterlace_reason.Learnt
-deinterlace_reason_one κs a r r' s s' p q = one_answer (p ungranted 87 2 first) (q ungranted 87 2 first)
+deinterlace_reason_one κs a r r' s s' p q = one_verdict r r' (one_answer (p ungranted 87 2 first) (q ungranted 87 2 first))
 
 pub sub_picture_reason_one : Determined sub_picture_reason.Learnt
-sub_picture_reason_one κs a r r' s s' p q = one_answer (p ungranted 87 2 first) (q ungranted 87 2 first)
+sub_picture_reason_one κs a r r' s s' p q = one_verdict r r' (one_answer (p ungranted 87 2 first) (q ungranted 87 2 first))
 
 pub scaler_address_one : Determined scaler_address.Learnt
 scaler_address_one κs a r r' s s' p q = one_answer p q
 
 pub first_address_reason_one : Determined first_address_reason.Learnt
 first_address_reason_one κs a r r' s s' p q =
-    let k = part_some 2 a.1.0.now a.1.1.0.now a.1.1.1.1.0 in
-    one_answer (p k.0 87 2 first k.1) (q k.0 87 2 first k.1)
+    let k = role_some 2 a.1.0.now in
+    one_verdict r r' (one_answer (p k.0 87 2 first k.1) (q k.0 87 2 first k.1))
 
 pub address_reason_one : Determined address_reason.Learnt
 address_reason_one κs a r r' s s' p q =
-    let k = part_some 2 a.1.0.now a.1.1.0.now a.1.1.1.1.0 in
-    one_answer (p.0 k.0 87 2 first k.1) (q.0 k.0 87 2 first k.1)
+    let k = role_some 2 a.1.0.now in
+    one_verdict r r' (one_answer (p.0 k.0 87 2 first k.1) (q.0 k.0 87 2 first k.1))
 
 pub destination_stride_reason_one : Determined destination_stride_reason.Learnt
-destination_stride_reason_one κs a r r' s s' p q = one_answer (p ungranted 87 2 first) (q ungranted 87 2 first)
+destination_stride_reason_one κs a r r' s s' p q = one_verdict r r' (one_answer (p ungranted 87 2 first) (q ungranted 87 2 first))
 
 pub source_stride_reason_one : Determined source_stride_reason.Learnt
-source_stride_reason_one κs a r r' s s' p q = one_answer (p ungranted 87 2 first) (q ungranted 87 2 first)
+source_stride_reason_one κs a r r' s s' p q = one_verdict r r' (one_answer (p ungranted 87 2 first) (q ungranted 87 2 first))
 
 -- ---- headers, and words by their position
 
@@ -266,31 +290,34 @@ header_of_one κs a r r' s s' p q = one_answer p q
 pub group_of_one : Determined group_of.Learnt
 group_of_one κs a r r' s s' p q = one_answer p q
 
+abbrev judged : Result (Unit {0}) Reason → Cell → Judged
+judged v c = record { verdict = v; cell = c }
+
 pub judge_parameter_one : Determined judge_parameter.Learnt
 judge_parameter_one κs a r r' s s' p q =
-    let k = part_some 1 a.1.1.1.0.now a.1.1.1.1.0.now a.1.1.1.1.1.1.0 in
-    one_answer (p k.0 k.1) (q k.0 k.1)
+    let k = role_some 1 a.1.1.1.0.now in
+    ap₂ judged (one_verdict r.verdict r'.verdict (one_answer (p.0 k.0 k.1) (q.0 k.0 k.1))) (one_answer p.1 q.1)
 
 pub overlay_word_one : Determined overlay_word.Learnt
-overlay_word_one κs a r r' s s' p q = one_answer (p ungranted) (q ungranted)
+overlay_word_one κs a r r' s s' p q = one_verdict r r' (one_answer (p ungranted) (q ungranted))
 
 pub scaler_word_one : Determined scaler_word.Learnt
 scaler_word_one κs a r r' s s' p q =
-    let k = part_some 2 a.1.1.0.now a.1.1.1.0.now a.1.1.1.1.1.0 in
-    one_answer (p k.0 87 2 first k.1) (q k.0 87 2 first k.1)
+    let k = role_some 2 a.1.1.0.now in
+    one_verdict r r' (one_answer (p k.0 87 2 first k.1) (q k.0 87 2 first k.1))
 
 -- ---- cells, the lowest bad one, and words that are needed
 
 -- the cell that its callers must hand it is one of the row
 pub fine_one : (κs : _) (a : _) (r r' : _) (s s' : _) → fine.Asked κs a → fine.Learnt κs a r s → fine.Learnt κs a r' s' → r ≡ r'
 fine_one κs a r r' s s' asked p q =
-    let row = asked.1.0 in
-    let k = part_some row.0 a.1.1.1.0.now a.1.1.1.1.0.now a.1.1.1.1.1.1.0 in
+    let row = asked.1 in
+    let k = role_some row.0 a.1.1.1.0.now in
     one_answer (p k.0 row.0 row.1 (λ other. k.1)) (q k.0 row.0 row.1 (λ other. k.1))
 
 pub lowest_bad_one : Determined lowest_bad.Learnt
 lowest_bad_one κs a r r' s s' p q =
-    let k = kept_some a.1.0.now a.1.1.0.now a.1.1.1.1.0.now in
+    let k = all_some a.1.0.now in
     one_answer (p k.0 k.1) (q k.0 k.1)
 
 abbrev need : ℕ → ℕ → Need
@@ -334,19 +361,19 @@ pair_kept_one κs a r r' s s' p q = (one_answer p.0 q.0, one_answer p.1 q.1)
 
 -- where what is left is told by the answer, the answers are equal first
 pub read_one : (κs : _) (a : _) (r r' : _) (s s' : _) → read.Learnt κs a r s → read.Learnt κs a r' s' → (r ≡ r') × (s.1.1.0.now ≡ s'.1.1.0.now)
-read_one κs a r r' s s' p q = let same = one_answer p.0 q.0 in (same, one_answer (rw same at p.1) q.1)
+read_one κs a r r' s s' p q = let same = one_result r r' (one_answer p.0 q.0) in (same, one_answer (rw same at p.1) q.1)
 
 pub size_one : Determined size.Learnt
-size_one κs a r r' s s' p q = one_answer p q
+size_one κs a r r' s s' p q = one_result r r' (one_answer p q)
 
 pub write_one : (κs : _) (a : _) (r r' : _) (s s' : _) → write.Learnt κs a r s → write.Learnt κs a r' s' → (r ≡ r') × (s.1.1.0.now ≡ s'.1.1.0.now)
-write_one κs a r r' s s' p q = let same = one_answer p.0 q.0 in (same, one_answer (rw same at p.1) q.1)
+write_one κs a r r' s s' p q = let same = one_result r r' (one_answer p.0 q.0) in (same, one_answer (rw same at p.1) q.1)
 
 pub list_one : (κs : _) (a : _) (r r' : _) (s s' : _) → list.Learnt κs a r s → list.Learnt κs a r' s' → (r ≡ r') × (s.1.0.now ≡ s'.1.0.now)
-list_one κs a r r' s s' p q = (one_answer p.0 q.0, one_answer p.1 q.1)
+list_one κs a r r' s s' p q = (one_result r r' (one_answer p.0 q.0), one_answer p.1 q.1)
 
 pub which_grant_one : Determined which_grant.Learnt
-which_grant_one κs a r r' s s' p q = one_answer p q
+which_grant_one κs a r r' s s' p q = one_result r r' (one_answer p q)
 
 -- no text has two lines at its front
 pub read_line_one : Determined read_line.Learnt
@@ -356,7 +383,7 @@ pub furthest_one : Determined furthest.Learnt
 furthest_one κs a r r' s s' p q = one_answer p q
 
 pub read_listing_one : (κs : _) (a : _) (r r' : _) (s s' : _) → read_listing.Learnt κs a r s → read_listing.Learnt κs a r' s' → (r ≡ r') × (s.1.0.now ≡ s'.1.0.now)
-read_listing_one κs a r r' s s' p q = let same = one_answer p.0 q.0 in (same, one_answer (rw same at p.1) q.1)
+read_listing_one κs a r r' s s' p q = let same = one_result r r' (one_answer p.0 q.0) in (same, one_answer (rw same at p.1) q.1)
 
 pub emit_3d_one : (κs : _) (a : _) (r r' : _) (s s' : _) → emit_3d.Learnt κs a r s → emit_3d.Learnt κs a r' s' → s.1.0.now ≡ s'.1.0.now
 emit_3d_one κs a r r' s s' p q = one_answer p q
@@ -372,43 +399,45 @@ put_line_video_one κs a r r' s s' p q = one_answer p q
 
 -- the group that its callers must hand it is one of the table, and some setting names it
 pub take_parameters_one : (κs : _) (a : _) (r r' : _) (s s' : _) → take_parameters.Asked κs a → take_parameters.Learnt κs a r s → take_parameters.Learnt κs a r' s'
-    → (r ≡ r') × (s.1.1.1.1.1.1.1.1.0.now ≡ s'.1.1.1.1.1.1.1.1.0.now)
+    → (r ≡ r') × (s.1.1.1.1.1.0.now ≡ s'.1.1.1.1.1.0.now)
 take_parameters_one κs a r r' s s' asked p q =
-    let named = some_setting a.1.1.1.0 asked.1.0 in
-    let k = part_some 1 a.1.1.1.1.0.now a.1.1.1.1.1.0.now a.1.1.1.1.1.1.1.0 in (
-      one_answer (p.0 k.0 named.0 named.1 k.1) (q.0 k.0 named.0 named.1 k.1),
+    let named = some_setting a.1.1.1.0 asked.1 in
+    let k = role_some 1 a.1.1.1.1.0.now in (
+      one_result r r' (one_answer (p.0 k.0 named.0 named.1 k.1) (q.0 k.0 named.0 named.1 k.1)),
       one_answer (p.1 k.0 named.0 named.1 k.1) (q.1 k.0 named.0 named.1 k.1),
     )
 
 pub take_overlay_one : (κs : _) (a : _) (r r' : _) (s s' : _) → take_overlay.Learnt κs a r s → take_overlay.Learnt κs a r' s' → (r ≡ r') × (s.1.1.1.1.0.now ≡ s'.1.1.1.1.0.now)
-take_overlay_one κs a r r' s s' p q = (one_answer (p.0 ungranted) (q.0 ungranted), one_answer (p.1 ungranted) (q.1 ungranted))
+take_overlay_one κs a r r' s s' p q = (one_result r r' (one_answer (p.0 ungranted) (q.0 ungranted)), one_answer (p.1 ungranted) (q.1 ungranted))
 
 -- the cell that its callers must hand it is a scaler's first
 pub take_scaler_one : (κs : _) (a : _) (r r' : _) (s s' : _) → take_scaler.Asked κs a → take_scaler.Learnt κs a r s → take_scaler.Learnt κs a r' s'
-    → (r ≡ r') × (s.1.1.1.1.1.1.1.1.1.0.now ≡ s'.1.1.1.1.1.1.1.1.1.0.now)
+    → (r ≡ r') × (s.1.1.1.1.1.1.0.now ≡ s'.1.1.1.1.1.1.0.now)
 take_scaler_one κs a r r' s s' asked p q =
-    let sc = the_scaler asked.1.1.0 in
-    let k = part_some _ a.1.1.1.1.1.0.now a.1.1.1.1.1.1.0.now a.1.1.1.1.1.1.1.1.0 in
-    (one_answer (p.0 k.0 _ sc k.1) (q.0 k.0 _ sc k.1), one_answer (p.1 k.0 _ sc k.1) (q.1 k.0 _ sc k.1))
+    let sc = the_scaler asked.1.1 in
+    let k = role_some _ a.1.1.1.1.1.0.now in
+    (one_result r r' (one_answer (p.0 k.0 _ sc k.1) (q.0 k.0 _ sc k.1)), one_answer (p.1 k.0 _ sc k.1) (q.1 k.0 _ sc k.1))
 
-pub read_packet_one : (κs : _) (a : _) (r r' : _) (s s' : _) → read_packet.Learnt κs a r s → read_packet.Learnt κs a r' s' → (r ≡ r') × (s.1.1.1.1.1.1.0.now ≡ s'.1.1.1.1.1.1.0.now)
+pub read_packet_one : (κs : _) (a : _) (r r' : _) (s s' : _) → read_packet.Learnt κs a r s → read_packet.Learnt κs a r' s' → (r ≡ r') × (s.1.1.1.0.now ≡ s'.1.1.1.0.now)
 read_packet_one κs a r r' s s' p q =
-    let k = kept_some a.1.1.0.now a.1.1.1.0.now a.1.1.1.1.1.0.now in
-    (one_answer (p.0 k.0 k.1) (q.0 k.0 k.1), one_answer (p.1.0 k.0 k.1) (q.1.0 k.0 k.1))
+    let k = all_some a.1.1.0.now in
+    (one_result r r' (one_answer (p.0 k.0 k.1) (q.0 k.0 k.1)), one_answer (p.1.0 k.0 k.1) (q.1.0 k.0 k.1))
 
-pub read_packets_one : (κs : _) (a : _) (r r' : _) (s s' : _) → read_packets.Learnt κs a r s → read_packets.Learnt κs a r' s' → (r ≡ r') × (s.1.1.1.1.1.0.now ≡ s'.1.1.1.1.1.0.now)
+pub read_packets_one : (κs : _) (a : _) (r r' : _) (s s' : _) → read_packets.Learnt κs a r s → read_packets.Learnt κs a r' s' → (r ≡ r') × (s.1.1.0.now ≡ s'.1.1.0.now)
 read_packets_one κs a r r' s s' p q =
-    let k = kept_some a.1.0.now a.1.1.0.now a.1.1.1.1.0.now in
-    (one_answer (p.0 k.0 k.1) (q.0 k.0 k.1), one_answer (p.1 k.0 k.1) (q.1 k.0 k.1))
+    let k = all_some a.1.0.now in
+    (one_result r r' (one_answer (p.0 k.0 k.1) (q.0 k.0 k.1)), one_answer (p.1 k.0 k.1) (q.1 k.0 k.1))
 
 -- whatever an engine keeps keeps some grants
-pub byte_part_of_one : Determined byte_part_of.Learnt
-byte_part_of_one κs a r r' s s' p q = one_answer p.0 q.0
+pub byte_part_of_one : (κs : _) (a : _) (r r' : _) (s s' : _) → byte_part_of.Learnt κs a r s → byte_part_of.Learnt κs a r' s'
+    → (r.starts ≡ r'.starts) × (r.lasts ≡ r'.lasts) × (r.numbers ≡ r'.numbers) × (r.part ≡ r'.part)
+byte_part_of_one κs a r r' s s' p q = (one_answer p.starts q.starts, one_answer p.lasts q.lasts, one_answer p.numbers q.numbers, one_answer p.part q.part)
 
 pub ask_one : Determined ask.Learnt
 ask_one κs a r r' s s' p q =
-    let k = kept_some a.1.1.1.0.now a.1.1.1.1.0.now (capped a.1.1.1.1.1.1.0.now) in
-    one_answer (p k.0 k.1) (q k.0 k.1)
+    let g = a.1.1.1.0.now in
+    let k = kept_some g.starts.now g.lasts.now (capped g.bounds.now) in
+    one_asked r r' (one_answer (p k.0 k.1) (q k.0 k.1))
 
 -- all of the engine, so also every answer to a later call
 pub engine_open_one : Determined engine_open.Learnt
@@ -419,8 +448,13 @@ engine_feed_one κs a r r' s s' p q =
     let k = kept_some a.0.starts a.0.lasts (capped a.0.bounds) in
     one_answer (p k.0 k.1) (q k.0 k.1)
 
+closed_same : (c c' : Closed) → c.reason ≡ c'.reason → c.place ≡ c'.place → c.state ≡ c'.state → c ≡ c'
+closed_same c c' r p s = cc
+
 pub engine_close_one : Determined engine_close.Learnt
-engine_close_one κs a r r' s s' p q = ap₂ (λ (x : Answer) (st : List ℕ). record { answer = x; state = st }) (one_answer p.0 q.0) (one_answer p.1 q.1)
+engine_close_one κs a r r' s s' p q =
+    let same = one_answer p.0 q.0 in
+    closed_same r r' (ap (λ (x : Answer). x.reason) same) (ap (λ (x : Answer). x.place) same) (one_answer p.1 q.1)
 
 pub irangelda_read_one : (κs : _) (a : _) (r r' : _) (s s' : _) → irangelda_read.Learnt κs a r s → irangelda_read.Learnt κs a r' s'
     → (r ≡ r') × (s.1.1.0.now ≡ s'.1.1.0.now)
