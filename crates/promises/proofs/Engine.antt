@@ -25,7 +25,7 @@ use Rattle.engine.proofs.feed.Reads as engine_feed
 use Rattle.engine.proofs.close.Reads as engine_close
 use Rattle.promises.proofs.Histories.{fed_holds, holds_answer, close_holds}
 use Rattle.promises.proofs.Promises.{left_as_words}
-use Rattle.promises.specs.CallContracts.{Reading, Opening, Feeding, Closing, Fed, just_opened, and_fed, answered}
+use Rattle.promises.specs.CallContracts.{Reading, Opening, Feeding, Closing, Fed, just_opened, and_fed, answered, closing_answer}
 
 -- ==== The contracts
 
@@ -61,7 +61,7 @@ module _ (st grants : List ℕ) where
     feeding_tells = holds_answer sw gs ws e (fed_holds st grants fed)
 
     -- and to closing, with the state that is handed back
-    pub closing_tells : (c : Closed) → Closing e c → (c.answer ≡ engine_answer sw gs (closing ws)) × (c.state ≡ engine_leaves sw gs ws)
+    pub closing_tells : (c : Closed) → Closing e c → (closing_answer c ≡ engine_answer sw gs (closing ws)) × (c.state ≡ engine_leaves sw gs ws)
     closing_tells c closed = close_holds sw gs ws e (fed_holds st grants fed) c closed
 
     -- A5 "A reason is given exactly if its row fits": to the last word,
@@ -69,7 +69,7 @@ module _ (st grants : List ℕ) where
     each_word_reason_exactly r p = rw feeding_tells (gives_exactly sw gs (feeding ws) r p)
 
     -- and to closing
-    pub each_closing_reason_exactly : (c : Closed) → Closing e c → (r p : ℕ) → (c.answer ≡ answer r p) ↔ EngineGives sw gs (closing ws) r p
+    pub each_closing_reason_exactly : (c : Closed) → Closing e c → (r p : ℕ) → (closing_answer c ≡ answer r p) ↔ EngineGives sw gs (closing ws) r p
     each_closing_reason_exactly c closed r p = rw (closing_tells c closed).0 (gives_exactly sw gs (closing ws) r p)
 
   -- A5 of opening
@@ -81,7 +81,7 @@ module _ (st grants : List ℕ) where
   -- M2 "every later call repeats that answer, and closing hands back the empty state"
   pub record Repeated (e : Engine) : Type 0 where
     pub words : (ws : List ℕ) (f : Engine) → Fed st grants ws f → answered f ≡ answered e
-    pub closed : (ws : List ℕ) (f : Engine) → Fed st grants ws f → (c : Closed) → Closing f c → (c.answer ≡ answered e) × (c.state ≡ empty)
+    pub closed : (ws : List ℕ) (f : Engine) → Fed st grants ws f → (c : Closed) → Closing f c → (closing_answer c ≡ answered e) × (c.state ≡ empty)
 
   -- M1 "Opening gives 1, then 2, as the reader does. Else it answers 0 at 0.", and after 1 or 2 every later call repeats it
   pub engine_opens : (e : Engine) → Opening st grants e → theory.Opens sw gs (answered e) × (e.reason ≢ 0 → Repeated e)
@@ -108,7 +108,7 @@ module _ (st grants : List ℕ) where
 
     module _ {ws : List ℕ} {e : Engine} (fed : Fed st grants ws e) where
       -- D6 "fed with the batch and closed, it gives the reader's answer and hands back the state that the reader leaves"
-      pub engine_closes_as_the_reader : length ws ≤ most_fed → (c : Closed) → Closing e c → (c.answer ≡ read_answer ws gs sw) × (c.state ≡ read_leaves ws gs sw)
+      pub engine_closes_as_the_reader : length ws ≤ most_fed → (c : Closed) → Closing e c → (closing_answer c ≡ read_answer ws gs sw) × (c.state ≡ read_leaves ws gs sw)
       engine_closes_as_the_reader few c closed =
           let told = closing_tells fed c closed in
           let same = theory.closes_as_the_reader sw gs ws answers_0 few in
@@ -117,7 +117,7 @@ module _ (st grants : List ℕ) where
       -- so it is whatever the contract of `reader::read` allows on the bytes of the same batch
       pub engine_is_the_reader : length ws ≤ most_fed → (c : Closed) → Closing e c
           → (batch : List ℕ) (a : Answer) (left : List ℕ) → words_of batch ≡ ws → All Byte batch → All Byte st → Reading batch grants st a left
-          → (c.answer ≡ a) × (c.state ≡ words_of left)
+          → (closing_answer c ≡ a) × (c.state ≡ words_of left)
       engine_is_the_reader few c closed batch a left same b x read =
           let told = engine_closes_as_the_reader few c closed in (
             told.0 ∙ sym (read.0 ∙ ap (λ (v : List ℕ). read_answer v gs sw) same),
@@ -147,7 +147,7 @@ module _ (st grants : List ℕ) where
       -- M6 "Once a word is refused, by 3 to 9 or by 23, words fed after it change nothing. They and closing are given the same answer.", and the
       -- state that was handed in comes back
       pub engine_stays_refused : e.reason ≢ 0 → (more : List ℕ) (f : Engine) → Fed st grants (ws ++ more) f
-          → (answered f ≡ answered e) × ((c : Closed) → Closing f c → (c.answer ≡ answered e) × (c.state ≡ sw))
+          → (answered f ≡ answered e) × ((c : Closed) → Closing f c → (closing_answer c ≡ answered e) × (c.state ≡ sw))
       engine_stays_refused n more f on =
           let tells = feeding_tells fed in
           let stays = theory.stays_refused sw gs ws more answers_0 (λ z. n (ap (λ (a : Answer). a.reason) tells ∙ z)) in (

@@ -43,7 +43,7 @@ use Rattle.promises.proofs.Marks.{packed_length, state_packed, cleared_packed}
 use Rattle.engine.proofs.Bits.{mark_at_lem}
 use Rattle.engine.proofs.Feeding.{fed_stays}
 use Rattle.promises.proofs.Standing.{Sized, fed_stands, Same, fed_same}
-use Rattle.promises.specs.CallContracts.{Feeding, Closing, Fed, just_opened, and_fed, answered}
+use Rattle.promises.specs.CallContracts.{Feeding, Closing, Fed, just_opened, and_fed, answered, closing_answer}
 
 -- what is kept of bounds that lie inside the room is the bounds
 byte_part : (x y : ℕ) → x ≤ y → y ≤ most_grants → ◌≡◌ {A = Part} (record { from = x % 256; to = min (y % 256) most_grants }) (record { from = x; to = y })
@@ -251,7 +251,7 @@ module _ (st grants ws : List ℕ) (e : Engine) (h : Holds st grants ws e) where
       behind_is = rw (target_mark, location_mark, ((h.stands z).kept y).pending) (restored_is st size (writes_of ws) low)
 
   -- what closing answers and hands back
-  pub close_holds : (c : Closed) → Closing e c → (c.answer ≡ engine.engine_answer st grants (engine.closing ws)) × (c.state ≡ engine.engine_leaves st grants ws)
+  pub close_holds : (c : Closed) → Closing e c → (closing_answer c ≡ engine.engine_answer st grants (engine.closing ws)) × (c.state ≡ engine.engine_leaves st grants ws)
   close_holds c closed =
       elim (ℕ_discrete at_opening.reason 0) [
         | yes z ↦ (

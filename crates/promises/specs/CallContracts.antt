@@ -76,9 +76,13 @@ Opening st grants e = e ≡ opened_with (words_of st) (words_of grants)
 abbrev pub Feeding : Engine → ℕ → Engine → Type 0
 Feeding e w r = (g : Terms) → Keeps g e.starts e.lasts (capped e.bounds) → r ≡ fed_with g e w
 
+-- the answer at closing
+abbrev pub closing_answer : Closed → Answer
+closing_answer c = answer c.reason c.place
+
 -- `engine::close` makes c of the engine e: an answer and a state
 abbrev pub Closing : Engine → Closed → Type 0
-Closing e c = (answer c.reason c.place ≡ closes (pair_judged e) (standing e)) × (c.state ≡ leaves (pair_judged e) (standing e) (behind e) (opening e))
+Closing e c = (closing_answer c ≡ closes (pair_judged e) (standing e)) × (c.state ≡ leaves (pair_judged e) (standing e) (behind e) (opening e))
 
 -- an engine that was opened with the bytes of a state and of a grant list, and then fed these words, one after another
 pub data Fed (st grants : List ℕ) : List ℕ → Engine → Type 0 where
