@@ -21,7 +21,8 @@ use Rattle.headers.specs.declared.Group.{Group}
 use Rattle.headers.specs.Told.{Runs, cell_in, Leads}
 use Rattle.judging.specs.Judged.{reason_for, cell_for}
 use Rattle.judging.proofs.Judging.{cell_judged}
-use Rattle.bodies.proofs.Bodies.{refused, parameter_asked}
+use Rattle.meaning.proofs.Refusals.{refused}
+use Rattle.bodies.proofs.Bodies.{parameter_asked}
 use Rattle.asking.specs.Asked.{Asked, under_of, stopped, taken_as, moved_on, passed, unless_stopped, bound_for, asked_in}
 use Rattle.asking.proofs.Offsets.{run_offset}
 

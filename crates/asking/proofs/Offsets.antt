@@ -20,7 +20,7 @@ use Rattle.meaning.proofs.Packets.{never_both}
 use Rattle.meaning.proofs.Stretches.{kind_3d, kind_video}
 use Rattle.registers.proofs.Names.{named_video}
 use Rattle.headers.specs.Told.{Runs}
-use Rattle.bodies.proofs.Bodies.{refused}
+use Rattle.meaning.proofs.Refusals.{refused}
 
 -- no word is both a setting and one of a run
 kinds_apart : {k : Kind} {o : VideoOffset} → k ≡ Setting → k ≡ Video o → ⊥

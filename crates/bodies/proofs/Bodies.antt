@@ -9,6 +9,7 @@ use native.Mathlib.Numerals.{add-one}
 use borrow.Author.Tests.{le-leb, lt-leb}
 use lib.ListN.{length, get_or}
 use lib.Seq.{slice, slice-cons, slice_empty}
+use Rattle.meaning.proofs.Refusals.{refused}
 use Rattle.meaning.specs.declared.Cell.{Cell}
 use Rattle.meaning.specs.declared.SubAddress.{SubAddress}
 use Rattle.meaning.specs.declared.VideoOffset.{VideoOffset}
@@ -45,10 +46,6 @@ else_on i st e = rw e
 pub else_stop : (r i : ℕ) (st : List ℕ) (more : Passed) → (r ≡ 0 → ⊥) → or_else r i st more ≡ passed r i st
 else_stop zero i st more n = absurd (n refl)
 else_stop (suc r) i st more n = refl
-
--- a reason that code names is not 0
-pub refused : (r : Reason) → number r ≡ 0 → ⊥
-refused r e = grind arith
 
 -- what a pass comes to
 pub comes : {r p : ℕ} {st : List ℕ} {target : Passed} → passed r p st ≡ target → Comes (answer r p) st target

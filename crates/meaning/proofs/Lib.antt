@@ -19,3 +19,4 @@ pub mod Fitter
 pub mod Outputs
 pub mod Bytes
 pub mod Exported
+pub mod Refusals

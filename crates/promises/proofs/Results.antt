@@ -8,7 +8,7 @@ use Rattle.meaning.specs.declared.Reason.{Reason}
 use Rattle.meaning.specs.declared.Reason.TheVariants as by
 use Rattle.meaning.specs.declared.Refusal.{Refusal}
 use Rattle.meaning.specs.Answers.{Answer, number, reason_in, answer_in}
-use Rattle.bodies.proofs.Bodies.{refused}
+use Rattle.meaning.proofs.Refusals.{refused}
 use Rattle.asking.specs.declared.Taken.{Taken}
 use Rattle.asking.specs.Asked.{Asked}
 use Rattle.asking.specs.Told.{asked_as}

@@ -1,7 +1,7 @@
 -- By the tests, in their order.
 -- Assumes nothing.
 use mathlib.Core.Path.{refl, sym, ap, ◌∙◌}
-use Rattle.bodies.proofs.Bodies.{refused}
+use Rattle.meaning.proofs.Refusals.{refused}
 use Rattle.asking.specs.Told.{asked_as}
 use Rattle.engine.proofs.Feeding.{one_more, at_cell, fed_stays, fed_full, fed_refused, fed_unstored, fed_stored}
 use Rattle.engine.proofs.feed.Goals as goal
