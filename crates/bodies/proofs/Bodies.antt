@@ -1,4 +1,4 @@
--- The words of a body one after another: one law for every loop over them, and what the code asks of a word and stores of it.
+-- The words of a body one after another: the law of the loop over them, and what the code asks of a word and stores of it.
 -- Assumes nothing.
 use Rattle.std.specs.Prelude.{Option, Some, None, Ok, Err}
 use mathlib.Core.Path.{◌≡◌, refl, sym, ap, ◌∙◌}

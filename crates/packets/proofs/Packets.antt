@@ -12,20 +12,20 @@ use lib.Dec.{leb}
 use lib.ListN.{length, get_or, take, drop, take-append-drop, length-drop, length-set, drop_of_length-le}
 use lib.Seq.{slice, take_all, length-take-le, drop-drop}
 use Rattle.laws.proofs.Rest.{rest}
+use Rattle.meaning.specs.declared.Reason.{Reason}
 use Rattle.meaning.specs.declared.Kind.{Kind}
 use Rattle.meaning.specs.declared.Kind.TheVariants.{Setting}
 use Rattle.meaning.specs.Words.{count}
 use Rattle.meaning.specs.Grants.{Terms}
 use Rattle.meaning.specs.State.{Write, apply, apply_all}
 use Rattle.meaning.specs.Positions.{kind_of, after, next_kind, next_left, write_at, writes_from, writes_of}
-use Rattle.meaning.specs.Answers.{Answer, success, ends_inside, answer}
+use Rattle.meaning.specs.Answers.{Answer, success, ends_inside, answer, number}
 use Rattle.meaning.specs.Reader.{header_reason, word_reason, judge, follow, ended, run, batch_answer}
 use Rattle.meaning.proofs.States.{applied_append}
 use Rattle.meaning.proofs.Stretches.{after_all}
-use Rattle.bodies.specs.Passes.{Passed, passed, answer_of, or_else, applied, body_from}
-use Rattle.bodies.proofs.Bodies.{else_on, else_stop}
+use Rattle.bodies.specs.Passes.{Passed, passed, answer_of, Comes, or_else, applied, body_from}
+use Rattle.bodies.proofs.Bodies.{else_on, else_stop, refused, comes}
 use Rattle.packets.specs.Packets.{headed, up_to, packet_from, ends, packets_from}
-use Rattle.packets.proofs.Headed.{Comes}
 
 -- ---- a packet, from what was read of it
 
@@ -58,18 +58,13 @@ module _ (g : Terms) (ws : List ℕ) (at : ℕ) (st : List ℕ) (l : at < length
   unfolding packet_from
   packet_is = rw (rest ws at l, ← is_header, at_hand ws at (count h) l end is_end, add-one at)
 
-  module _ {a : Answer} {left : List ℕ} (ea : a ≡ answer_of read) (el : left ≡ read.state) where
-    reason_is : a.reason ≡ read.reason
-    reason_is = ap (λ (x : Answer). x.reason) ea
+  -- a word of it is refused,
+  pub packet_refused : (r : Reason) {p : ℕ} {left : List ℕ} → Comes (answer (number r) p) left read → Comes (answer (number r) p) left (packet_from g at (drop at ws) st)
+  packet_refused r is = rw (packet_is ∙ else_stop read.reason read.place read.state _ (λ z. refused r (ap (λ (x : Answer). x.reason) is.0 ∙ z))) is
 
-    -- a word of it is refused
-    pub packet_refused : (a.reason ≡ 0 → ⊥) → Comes a left (packet_from g at (drop at ws) st)
-    packet_refused n = rw (packet_is ∙ else_stop read.reason read.place read.state _ (λ z. n (reason_is ∙ z))) (ea, el)
-
-    -- none is
-    pub packet_passed : a.reason ≡ 0 → {p : ℕ} → p ≡ at + 1 + count h
-        → Comes (record { reason = 0; place = p }) left (packet_from g at (drop at ws) st)
-    packet_passed z e = rw (packet_is ∙ else_on read.place read.state (sym reason_is ∙ z)) (ap (answer success) e, el)
+  -- or none is
+  pub packet_passed : {p q : ℕ} {left : List ℕ} → Comes (answer success p) left read → q ≡ at + 1 + count h → Comes (answer success q) left (packet_from g at (drop at ws) st)
+  packet_passed is e = rw (packet_is ∙ else_on read.place read.state (sym (ap (λ (x : Answer). x.reason) is.0))) (ap (answer success) e, is.1)
 
 -- ---- words from a position on
 
@@ -169,19 +164,19 @@ tail_ahead g ws i h left l =
 
 module _ (g : Terms) (ws : List ℕ) (target : Passed) (st : List ℕ) (i : ℕ) (inv : ahead g i ws st ≡ target) where
   -- all is read
-  pub all_read : {p : ℕ} → p ≡ length ws → i ≡ length ws → passed success p st ≡ target
+  pub all_read : {p : ℕ} → p ≡ length ws → i ≡ length ws → Comes (answer success p) st target
   unfolding ahead packets_from
   all_read is_end e =
       let inside : i ≤ length ws = omega arith in
       let none : length ws ≤ i = omega arith in
-      ap (λ (x : ℕ). passed success x st) (is_end ∙ sym e) ∙ (rw (le-leb i (length ws) inside, drop_of_length-le ws none) at inv)
+      comes (ap (λ (x : ℕ). passed success x st) (is_end ∙ sym e) ∙ (rw (le-leb i (length ws) inside, drop_of_length-le ws none) at inv))
 
   -- the last packet is not whole
-  pub not_whole : {p : ℕ} → p ≡ length ws → length ws < i → passed ends_inside p st ≡ target
+  pub not_whole : {p : ℕ} → p ≡ length ws → length ws < i → Comes (answer ends_inside p) st target
   unfolding ahead
-  not_whole is_end l = ap (λ (x : ℕ). passed ends_inside x st) is_end ∙ (rw (lt-leb i (length ws) l) at inv)
+  not_whole is_end l = comes (ap (λ (x : ℕ). passed ends_inside x st) is_end ∙ (rw (lt-leb i (length ws) l) at inv))
 
-  module _ (l : i < length ws) {a : Answer} {left : List ℕ} (ea : a ≡ answer_of (packet_from g i (drop i ws) st)) (el : left ≡ (packet_from g i (drop i ws) st).state) where
+  module _ (l : i < length ws) {a : Answer} {left : List ℕ} (is : Comes a left (packet_from g i (drop i ws) st)) where
     abbrev h : ℕ
     h = get_or ws i 0
 
@@ -204,22 +199,21 @@ module _ (g : Terms) (ws : List ℕ) (target : Passed) (st : List ℕ) (i : ℕ)
     reason_up (suc r) e = rw e
 
     a_reason : a.reason ≡ b.reason
-    a_reason = ap (λ (x : Answer). x.reason) ea ∙ ap (λ (x : Passed). x.reason) packet_up ∙ reason_up b.reason refl
+    a_reason = ap (λ (x : Answer). x.reason) is.0 ∙ ap (λ (x : Passed). x.reason) packet_up ∙ reason_up b.reason refl
 
-    pub read_stop : (a.reason ≡ 0 → ⊥) → Comes a left target
-    read_stop n =
-        let m : b.reason ≡ 0 → ⊥ = λ z. n (a_reason ∙ z) in
-        let same : packet_from g i (drop i ws) st ≡ target =
-        packet_up ∙ else_stop b.reason b.place b.state _ m ∙ sym (else_stop b.reason b.place b.state _ m) ∙ target_is
-        in
-        (ea ∙ ap answer_of same, el ∙ ap (λ (x : Passed). x.state) same)
+    -- a word of the next packet is refused,
+    pub read_stop : (r : Reason) → a.reason ≡ number r → Comes a left target
+    read_stop r e =
+        let m : b.reason ≡ 0 → ⊥ = λ z. refused r (sym e ∙ a_reason ∙ z) in
+        rw (packet_up ∙ else_stop b.reason b.place b.state _ m ∙ sym (else_stop b.reason b.place b.state _ m) ∙ target_is) at is
 
+    -- or none is, and the packets behind it are left
     pub read_on : a.reason ≡ 0 → ahead g a.place ws left ≡ target
     read_on z =
         let fine : b.reason ≡ 0 = sym a_reason ∙ z in
         let up : packet_from g i (drop i ws) st ≡ passed success (suc i + count h) b.state = packet_up ∙ else_on b.place b.state fine in
-        let place : a.place ≡ i + 1 + count h = ap (λ (x : Answer). x.place) ea ∙ ap (λ (x : Passed). x.place) up ∙ omega arith in
-        let state : left ≡ b.state = el ∙ ap (λ (x : Passed). x.state) up in
+        let place : a.place ≡ i + 1 + count h = ap (λ (x : Answer). x.place) is.0 ∙ ap (λ (x : Passed). x.place) up ∙ omega arith in
+        let state : left ≡ b.state = is.1 ∙ ap (λ (x : Passed). x.state) up in
         rw (place, state) (sym (tail_ahead g ws i h b.state l) ∙ sym (else_on b.place b.state fine) ∙ target_is)
 
 -- ---- all the words
