@@ -10,7 +10,6 @@ use super::making::{Damage, some_case, some_damaged_case, some_grants, some_valu
 use super::run::Run;
 use std::alloc::{AllocError, Global};
 use std::io;
-use std::io::ErrorKind;
 
 // The first three have 64 grants: one has the address; or each has some of eight addresses; or all have the target's, in
 // two memories.
@@ -24,7 +23,7 @@ pub(super) enum Family {
     BesideReader,
 }
 
-// By the page's numbers.
+// By the page's numbers; every higher one is the reader's too.
 const FAMILIES: [Family; 14] = [
     Family::OneOf64(Others::All(Miss::StartsBehind)),
     Family::OneOf64(Others::All(Miss::EndsTooSoon)),
@@ -42,14 +41,12 @@ const FAMILIES: [Family; 14] = [
     Family::InTwoMemories,
 ];
 
-impl TryFrom<u32> for Family {
-    type Error = io::Error;
-
-    fn try_from(number: u32) -> io::Result<Family> {
+impl From<u32> for Family {
+    fn from(number: u32) -> Family {
         FAMILIES
             .get(number as usize)
             .copied()
-            .ok_or(io::Error::new(ErrorKind::InvalidData, "no such family"))
+            .unwrap_or(Family::BesideReader)
     }
 }
 

@@ -20,13 +20,15 @@ mod tally;
 
 use run::Run;
 use std::io;
-use std::io::{BufRead, BufReader};
+use std::io::Read;
+
+// As many bytes as are read; what stands behind them is not looked at.
+const ROOM: u64 = 65536;
 
 fn main(rt: HostRuntime) -> io::Result<()> {
-    let alloc = rt.alloc();
+    let mut page = Vec::new(rt.alloc());
+    rt.stdin().take(ROOM).read_to_end(&mut page)?;
     let mut run = Run::new(rt);
-    for line in BufReader::new(alloc, rt.reader())?.lines(alloc) {
-        run.run_line(line?.as_str())?;
-    }
+    run.run_page(&page)?;
     run.tally.tell_end(&rt)
 }

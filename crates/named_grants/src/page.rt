@@ -2,35 +2,66 @@
 // ?, and calls that are made here ~; the name of a family is =, and its line is then told; a text to tell is : and counts
 // of the whole run to tell are #. A space stands before each number, which is decimal, or hex behind 0x. All other lines
 // are passed over.
+//
+// Any bytes are a page. What is no digit of a number counts for nothing in it, and of a number that is too long for a word
+// the lowest bits are left.
 use super::answer::Answer;
 use super::families::Family;
 use super::lent::{Content, bytes_of};
 use super::run::Run;
+use std::alloc::{AllocError, Global};
 use std::io;
-use std::io::ErrorKind;
 
-fn number(word: &str) -> io::Result<u32> {
-    let number = match word.strip_prefix("0x") {
-        Some(digits) => u32::from_str_radix(digits, 16),
-        None => word.parse(),
-    };
-    number.map_err(|_| io::Error::new(ErrorKind::InvalidData, "not a number"))
+// So many numbers of a line are kept, but for the last of them, with which the list is empty again. What then follows
+// takes their places from the first on.
+const ROOM: usize = 352;
+
+fn digit(byte: u8) -> Option<u32> {
+    match byte {
+        b'0'..=b'9' => Some(u32::from(byte - b'0')),
+        b'a'..=b'f' => Some(u32::from(byte - b'a') + 10),
+        _ => None,
+    }
 }
 
-// The first numbers of a line; each that it does not have is 0.
-fn numbers<const N: usize>(text: &str) -> io::Result<[u32; N]> {
-    let mut numbers = [0; N];
-    for (place, word) in numbers.iter_mut().zip(text.split_whitespace()) {
-        *place = number(word)?;
+// From its x on a number is hex. Before it the letters are digits too.
+fn number(word: &[u8]) -> u32 {
+    let mut base = 10;
+    let mut number = 0u32;
+    for byte in word {
+        if *byte == b'x' {
+            base = 16;
+        } else if let Some(digit) = digit(*byte) {
+            number = number.wrapping_mul(base).wrapping_add(digit);
+        }
     }
-    Ok(numbers)
+    number
+}
+
+// The numbers of a line, one behind each space.
+fn numbers(alloc: Global, text: &[u8]) -> Result<Vec<u32>, AllocError> {
+    text.split(|byte| *byte == b' ')
+        .skip(1)
+        .map(number)
+        .collect(alloc)
+}
+
+// The numbers in the first places; each that the line does not have is 0.
+fn first<const N: usize>(numbers: &[u32]) -> [u32; N] {
+    let mut first = [0; N];
+    for list in numbers.chunks(ROOM) {
+        for (place, number) in first.iter_mut().zip(list) {
+            *place = *number;
+        }
+    }
+    first
 }
 
 impl<R: Print + AllocGlobal> Run<R> {
     // A line's numbers are the cell, its mark and its value in the empty state, and the answer; then how many more calls
     // have that answer, and by how much the cell and the value grow from each to the next.
-    fn run_calls(&mut self, text: &str) -> io::Result<()> {
-        let [cell, mark, value, stated, more, cell_step, value_step] = numbers::<7>(text)?;
+    fn run_calls(&mut self, numbers: &[u32]) -> io::Result<()> {
+        let [cell, mark, value, stated, more, cell_step, value_step] = first::<7>(numbers);
         let mut cell = cell as usize;
         let mut content = Content { mark, value };
         for _ in 0..=more {
@@ -42,43 +73,55 @@ impl<R: Print + AllocGlobal> Run<R> {
         Ok(())
     }
 
-    fn run_family(&mut self, text: &str) -> io::Result<()> {
-        let [family, calls] = numbers::<2>(text)?;
-        let family = Family::try_from(family)?;
+    fn run_family(&mut self, numbers: &[u32]) -> io::Result<()> {
+        let [family, calls] = first::<2>(numbers);
+        let family = Family::from(family);
         for k in 0..calls {
             self.turn(family, k)?;
         }
         Ok(())
     }
 
-    fn take_grants(&mut self, text: &str) -> io::Result<()> {
-        let alloc = self.rt.alloc();
-        let words: Vec<u32> = text.split_whitespace().map(number).try_collect(alloc)?;
-        self.case.grants = bytes_of(alloc, &words)?;
+    // The words of the list as it stands at the end of the line.
+    fn take_grants(&mut self, numbers: &[u32]) -> io::Result<()> {
+        let (_, words) = numbers.as_chunks::<ROOM>();
+        self.case.grants = bytes_of(self.rt.alloc(), words)?;
         Ok(())
     }
 
-    fn take_location(&mut self, text: &str) -> io::Result<()> {
-        let [mark, value] = numbers::<2>(text)?;
+    fn take_location(&mut self, numbers: &[u32]) {
+        let [mark, value] = first::<2>(numbers);
         self.location = Content { mark, value };
-        Ok(())
     }
 
-    fn tell_counts(&self, text: &str) -> io::Result<()> {
-        let [first, n] = numbers::<2>(text)?;
+    fn tell_counts(&self, numbers: &[u32]) -> io::Result<()> {
+        let [first, n] = first::<2>(numbers);
         self.tally.tell_counts(&self.rt, first, n)
     }
 
-    pub(super) fn run_line(&mut self, line: &str) -> io::Result<()> {
-        match line.split_at_checked(1) {
-            Some(("g", text)) => self.take_grants(text),
-            Some(("l", text)) => self.take_location(text),
-            Some(("?", text)) => self.run_calls(text),
-            Some(("~", text)) => self.run_family(text),
-            Some(("=", text)) => self.tally.end_family(&self.rt, text),
-            Some((":", text)) => print!(self.rt; "{text}"),
-            Some(("#", text)) => self.tell_counts(text),
-            _ => Ok(()),
+    // A line that is for that.
+    fn run_line(&mut self, what: u8, text: &[u8]) -> io::Result<()> {
+        let numbers = numbers(self.rt.alloc(), text)?;
+        match what {
+            b'g' => self.take_grants(&numbers)?,
+            b'l' => self.take_location(&numbers),
+            b'?' => self.run_calls(&numbers)?,
+            b'~' => self.run_family(&numbers)?,
+            b'=' => self.tally.end_family(&self.rt, text)?,
+            b':' => self.rt.write_all(text)?,
+            b'#' => self.tell_counts(&numbers)?,
+            _ => {}
         }
+        Ok(())
+    }
+
+    // What stands behind the last line end is passed over.
+    pub(super) fn run_page(&mut self, page: &[u8]) -> io::Result<()> {
+        for line in page.split_inclusive(|byte| *byte == b'\n') {
+            if let [what, text @ .., b'\n'] = line {
+                self.run_line(*what, text)?;
+            }
+        }
+        Ok(())
     }
 }

@@ -15,7 +15,7 @@ const DIFFERENCES: usize = 0;
 const BY_GRANT: usize = 100;
 
 fn add(count: &mut u32) {
-    *count = count.saturating_add(1);
+    *count = count.wrapping_add(1);
 }
 
 // Of a family: calls, those answered 1, those answered 2, those that tell a grant, and of these the ones where another
@@ -116,9 +116,10 @@ impl Tally {
         println!(rt; "difference: call={call} first={first} expected={expected}")
     }
 
-    pub(super) fn end_family(&mut self, rt: &impl Print, name: &str) -> io::Result<()> {
+    pub(super) fn end_family(&mut self, rt: &impl Print, name: &[u8]) -> io::Result<()> {
         let counts = mem::take(&mut self.family);
-        println!(rt; "{name} {counts}")
+        rt.write_all(name)?;
+        println!(rt; " {counts}")
     }
 
     fn count_at(&self, i: usize) -> u32 {
