@@ -3,7 +3,8 @@
 
 ghost use Rattle.std.specs.Prelude.{◌≡◌, ◌&&◌, [], ◌∷◌, ◌≤◌};
 ghost use Rattle.laws.specs.Lists.{every};
-ghost use Rattle.meaning.specs.Answers.{answer_in, number_of};
+ghost use Rattle.meaning.specs.Answers as answers;
+ghost use Rattle.meaning.specs.Answers.{number_of};
 ghost use Rattle.meaning.specs.Registers as registers;
 ghost use Rattle.meaning.specs.Exported as exported;
 
@@ -64,8 +65,8 @@ fn two_buffers_fine(state: &[u8], grants: &[u8]) -> bool
 
 // The answer as one number. No place is larger than a buffer is long.
 fn number(answer: Answer) -> u64
-    requires place { (answer_in answer).place ≤ exported.most_bytes }
-    ensures number { result ≡ number_of (answer_in answer) }
+    requires place { (answers.answer_in answer).place ≤ exported.most_bytes }
+    ensures number { result ≡ number_of (answers.answer_in answer) }
 {
     match answer {
         Ok(place) => place as u64 * 256,

@@ -83,6 +83,7 @@ pub record Answer : Type 0 where
   pub reason : ℕ
   pub place : ℕ
 
+-- by its two numbers
 abbrev pub answer : ℕ → ℕ → Answer
 answer r p = record { reason = r; place = p }
 

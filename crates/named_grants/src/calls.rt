@@ -5,13 +5,10 @@ use super::lent::{Case, STATE_BYTES};
 use meaning::Cell;
 
 fn outcome(told: meaning::Answer) -> Result<usize, Refusal> {
-    match told.reason {
-        0 => Ok(told.place),
-        reason => Err(Refusal {
-            reason: Reason::from(reason),
-            place: told.place,
-        }),
-    }
+    told.map_err(|refusal| Refusal {
+        reason: Reason::from(refusal.reason as u32),
+        place: refusal.place,
+    })
 }
 
 pub(super) fn which_grant(case: &Case, cell: usize) -> Answer {
