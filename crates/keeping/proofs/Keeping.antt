@@ -323,6 +323,10 @@ KeptFrom ws starts lasts numbers s l n b =
     let k = kept_of (grants_of ws) starts lasts numbers in
     (s ≡ k.starts) × ((l ≡ k.lasts) × ((n ≡ k.numbers) × (b ≡ k.bounds)))
 
+-- stands inside the room: for the bounds alone, which is all that a value of kept grants asks of them
+pub bounded_after : (ws starts lasts numbers : List ℕ) → grants_fine ws ≡ true → {b : List ℕ} → b ≡ (kept_of (grants_of ws) starts lasts numbers).bounds → Bounded b
+bounded_after ws starts lasts numbers fine e = rw e (bounded ws starts lasts numbers fine)
+
 -- names the grants of a list that keeps its rules, and keeps them
 module _ (ws starts lasts numbers : List ℕ) (lent : Lent starts lasts numbers) (fine : grants_fine ws ≡ true) {s l n b : List ℕ}
     (kept : KeptFrom ws starts lasts numbers s l n b) where

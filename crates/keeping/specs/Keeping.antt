@@ -1,9 +1,10 @@
 -- How the grants of a list come to be kept: each at the end of its role's part, in the order of the list, with its number there and its
 -- memory.
 -- Assumes nothing.
-use Rattle.std.specs.Prelude.{cond, List, [], ◌∷◌, ℕ, suc, ◌+◌, ◌-◌, leb, eqb, get_or, set}
+use Rattle.std.specs.Prelude.{◌≡◌, true, cond, List, [], ◌∷◌, ℕ, suc, ◌+◌, ◌-◌, ◌<◌, leb, eqb, get_or, set}
 use Rattle.meaning.specs.Grants.{Grant, grants_of, grants_fine}
 use Rattle.grants.specs.Kept.{bearing}
+use Rattle.keeping.specs.declared.Grant.{Grant as Read}
 
 -- the whole of it
 pub record Kept : Type 0 where
@@ -34,15 +35,29 @@ unfoldable pub place_all : ℕ → List Grant → Kept → Kept
 place_all n [] k = k
 place_all n (g ∷ gs) k = place_all (suc n) gs (place n g k)
 
+-- ---- the list, as code reads and counts it
+
+-- a grant of it
+abbrev pub read_as : Read → Grant
+read_as g = record { role = g.role; start = g.start; length = g.length; reach = g.reach; memory = g.memory }
+
+-- the grant of a number
+abbrev pub number_of : List Grant → ℕ → Grant
+number_of gs n = get_or gs n (record { role = 0; start = 0; length = 0; reach = 0; memory = 0 })
+
 -- how many grants have the role
 unfoldable pub with_role : ℕ → List Grant → ℕ
 with_role role [] = 0
 with_role role (g ∷ gs) = let more = with_role role gs in cond (eqb g.role role) (suc more) more
 
--- nothing is counted, and nothing is kept
-abbrev pub no_counts : List ℕ
-no_counts = 0 ∷ 0 ∷ 0 ∷ 0 ∷ []
+-- the counts of a list that keeps its rules
+pub record Counts (ws counts : List ℕ) : Type 0 where
+  pub fine : grants_fine ws ≡ true
+  pub counted : (role : ℕ) → role < 4 → get_or counts role 0 ≡ with_role role (grants_of ws)
 
+-- ---- and what is begun by the counts
+
+-- nothing is kept
 abbrev pub no_bounds : List ℕ
 no_bounds = 0 ∷ 0 ∷ 0 ∷ 0 ∷ 0 ∷ 0 ∷ 0 ∷ 0 ∷ []
 

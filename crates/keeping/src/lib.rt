@@ -1,7 +1,7 @@
 // The grant list: its rules, and how its grants come to be kept, each behind the others of its role.
 #![tactic(auto)]
 
-ghost use Rattle.std.specs.Prelude.{◌≡◌, true, ℕ, ◌≤◌, ◌<◌, T, get_or, set};
+ghost use Rattle.std.specs.Prelude.{◌≡◌, false, ◌≤◌, ◌<◌, ◌/◌, T, length, set, MatchOption};
 ghost use Rattle.meaning.specs.Words.{words_of};
 ghost use Rattle.meaning.specs.Grants.{most_grants, grants_of, memory_fine, grant_fine, grants_fine};
 ghost use Rattle.grants.specs.Kept.{bearing};
@@ -10,85 +10,89 @@ ghost use Rattle.keeping.specs.Keeping as kept;
 use grants::{Bounds, IN_MEMORY_1, MEMORY_STEP, Numbers, Spans};
 use meaning::{GRANT_WORDS, MOST_GRANTS};
 
-// The most words that a list has.
-const MOST_WORDS: usize = GRANT_WORDS * MOST_GRANTS;
-
-// Memory 0 or 1, and only the target's may be 1.
-fn memory_fine(role: u32, memory: u32) -> bool
-    ensures fine { (start length reach : ℕ) → result ≡ memory_fine (record { role = role; start = start; length = length; reach = reach; memory = memory }) }
-{
-    if memory == 0 {
-        return true;
-    }
-    if memory != 1 {
-        return false;
-    }
-    role == 1
+// A grant of a list, by its five words.
+#[derive(Clone, Copy)]
+struct Grant {
+    role: u32,
+    start: u32,
+    length: u32,
+    reach: u32,
+    memory: u32,
 }
 
-// The sum is taken in 64 bits: an end of 2^32 is allowed, and does not fit a word.
-fn grant_fine(role: u32, start: u32, length: u32, reach: u32, memory: u32) -> bool
-    ensures fine { result ≡ grant_fine (record { role = role; start = start; length = length; reach = reach; memory = memory }) }
-{
-    if role < 1 {
-        return false;
+impl Grant {
+    // That of a number.
+    fn read(grants: &[u8], number: usize) -> Grant
+        requires inside { number < length grants.now / 4 / 5 }
+        ensures grant { kept.read_as result ≡ kept.number_of (grants_of (words_of grants.now)) number }
+    {
+        let at = GRANT_WORDS * number;
+        Grant {
+            role: words::word(grants, at),
+            start: words::word(grants, at + 1),
+            length: words::word(grants, at + 2),
+            reach: words::word(grants, at + 3),
+            memory: words::word(grants, at + 4),
+        }
     }
-    if 3 < role {
-        return false;
+
+    // Memory 0 or 1, and only the target's may be 1.
+    #[tactic(auto, unfolding(meaning::specs::Grants::memory_fine))]
+    fn memory_fine(self) -> bool
+        ensures fine { result ≡ memory_fine (kept.read_as self) }
+    {
+        match self.memory {
+            0 => true,
+            1 => self.role == 1,
+            _ => false,
+        }
     }
-    if 0x1_0000_0000 < start as u64 + length as u64 {
-        return false;
+
+    // A role from 1 to 3, an end of at most 2^32, a reach of at least 1 and a memory that the role may have. The sum is taken in 64 bits: an
+    // end of 2^32 is allowed, and does not fit a word.
+    #[tactic(auto, unfolding(meaning::specs::Grants::grant_fine))]
+    fn fine(self) -> bool
+        ensures fine { result ≡ grant_fine (kept.read_as self) }
+    {
+        matches!(self.role, 1..=3)
+            && u64::from(self.start) + u64::from(self.length) <= 0x1_0000_0000
+            && 1 <= self.reach
+            && self.memory_fine()
     }
-    if reach < 1 {
-        return false;
-    }
-    memory_fine(role, memory)
 }
 
-// Whole grants, at most 64, each with a role from 1 to 3, an end of at most 2^32, a reach of at least 1 and a memory that its role may have.
-// How many have each role is counted on the way.
-fn count_roles(grants: &[u8], counts: &mut [usize; 4]) -> bool
-    requires none { counts.old ≡ kept.no_counts }
-    ensures fine { result ≡ grants_fine (words_of grants.now) }
-    ensures counts { result ≡ true → (role : ℕ) → role < 4 → get_or counts.new role 0 ≡ kept.with_role role (grants_of (words_of grants.now)) }
+// Whole grants, at most 64, each of which is fine. How many have each role is counted on the way.
+fn count_roles(grants: &[u8]) -> Option<[usize; 4]>
+    ensures counts { MatchOption result (grants_fine (words_of grants.now) ≡ false) (kept.Counts (words_of grants.now)) }
 {
     let words = grants.len() / 4;
-    if words % GRANT_WORDS != 0 {
-        return false;
+    // Divided once, which serves `place` too: no remainder is taken.
+    let many = words / GRANT_WORDS;
+    if many * GRANT_WORDS != words || MOST_GRANTS < many {
+        return None;
     }
-    if MOST_WORDS < words {
-        return false;
-    }
-    let mut i = 0;
-    while i < words {
-        let role = words::word(grants, i);
-        if !grant_fine(
-            role,
-            words::word(grants, i + 1),
-            words::word(grants, i + 2),
-            words::word(grants, i + 3),
-            words::word(grants, i + 4),
-        ) {
-            return false;
+    let mut counts = [0; 4];
+    for number in 0..many {
+        let grant = Grant::read(grants, number);
+        if !grant.fine() {
+            return None;
         }
-        let r = role as usize;
-        counts[r] = counts[r] + 1;
-        i += GRANT_WORDS;
+        counts[grant.role as usize] += 1;
     }
-    true
+    Some(counts)
 }
 
 // The rules of the list, and where the parts of what is kept of it begin; false, and nothing is begun, where the list breaks its rules. It and
 // `place` are two functions, so that each is small enough to be compiled into every call that keeps grants.
+#[tactic(auto, unfolding(crate::specs::Keeping::begun_by, crate::specs::Keeping::beginnings))]
 pub fn begin(grants: &[u8], bounds: &mut Bounds) -> bool
     requires none { bounds.old ≡ kept.no_bounds }
     ensures fine { result ≡ grants_fine (words_of grants.now) }
     ensures begun { bounds.new ≡ kept.begun_by (words_of grants.now) }
 {
-    let mut counts = [0usize; 4];
-    if !count_roles(grants, &mut counts) {
+    let Some(counts) = count_roles(grants) else {
         return false;
-    }
+    };
     let second = counts[1];
     let third = second + counts[2];
     bounds[2] = second;
@@ -100,6 +104,7 @@ pub fn begin(grants: &[u8], bounds: &mut Bounds) -> bool
 
 // Notes the number and the memory of the grant that is kept at a place. Only one in memory 1 is noted of the list too: nothing more is stored
 // for the others, which are the most.
+#[tactic(auto, unfolding(crate::specs::Keeping::noted))]
 fn note(number: usize, memory: u32, at: usize, numbers: &mut Numbers, bounds: &mut Bounds)
     requires few { number < most_grants }
     requires memory { memory ≤ 1 }
@@ -131,22 +136,15 @@ pub fn place(
     ensures numbers { numbers.new ≡ (kept.kept_of (grants_of (words_of grants.now)) starts.old lasts.old numbers.old).numbers }
     ensures bounds { bounds.new ≡ (kept.kept_of (grants_of (words_of grants.now)) starts.old lasts.old numbers.old).bounds }
 {
-    let words = grants.len() / 4;
-    let mut number = 0usize;
-    let mut i = 0;
-    while i < words {
-        let length = words::word(grants, i + 2);
-        let reach = words::word(grants, i + 3);
-        if reach <= length {
-            let end = 4 + words::word(grants, i) as usize;
+    for number in 0..grants.len() / 4 / GRANT_WORDS {
+        let grant = Grant::read(grants, number);
+        if grant.reach <= grant.length {
+            let end = 4 + grant.role as usize;
             let at = bounds[end];
-            let start = words::word(grants, i + 1);
-            starts[at] = start;
-            lasts[at] = start + (length - reach);
-            bounds[end] = at + 1;
-            note(number, words::word(grants, i + 4), at, numbers, bounds);
+            starts[at] = grant.start;
+            lasts[at] = grant.start + (grant.length - grant.reach);
+            bounds[end] += 1;
+            note(number, grant.memory, at, numbers, bounds);
         }
-        number += 1;
-        i += GRANT_WORDS;
     }
 }
