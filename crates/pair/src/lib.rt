@@ -2,9 +2,8 @@
 // of the state whose two marks are cleared: those that have come back tell what it wrote, and no flag goes through the loops.
 #![tactic(auto)]
 
-ghost use Rattle.std.specs.Prelude.{◌≡◌, true, ◌&&◌, ◌||◌, ◌≤◌, ltb, eqb, length};
+ghost use Rattle.std.specs.Prelude.{◌≡◌, true, ◌&&◌, ltb, eqb, length};
 ghost use Rattle.meaning.specs.Words.{words_of};
-ghost use Rattle.meaning.specs.Grants.{most_grants};
 ghost use Rattle.meaning.specs.State.{state_words};
 ghost use Rattle.meaning.specs.Pair.{memory_named};
 ghost use Rattle.pair.specs.Marks.{back, restored};
@@ -107,7 +106,7 @@ fn back_to(mark: u32, entry: u32) -> u32
 // Gives the two marks back as they are behind the batch, from `target` and `location`, those that it was entered with. Whether the batch
 // keeps the pair: it wrote neither cell, or the pair is fine. `known` says that an address that the batch wrote is granted in memory 0, which
 // its caller may have seen.
-#[tactic(auto, using(crate::proofs::Judged::settled_fine), unfolding(crate::specs::Judged::kept_in, crate::specs::Marks::came_back, crate::specs::Marks::restored))]
+#[tactic(auto, unfolding(crate::specs::Judged::kept_in, crate::specs::Marks::came_back, crate::specs::Marks::restored))]
 pub fn kept(target: u32, location: u32, own: &mut State, part: &RoleGrants<'_>, known: bool) -> bool
     requires whole { length own.old ≡ state_words }
     requires known { known ≡ true → KnownBy part.now own.old }
