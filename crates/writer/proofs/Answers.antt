@@ -1,83 +1,60 @@
 -- The size's answer, by what its tests came to; and what success tells of a state.
 -- Assumes nothing.
-use Rattle.std.specs.Prelude.{Option, Some, None}
+use Rattle.std.specs.Prelude.{Option, Some, None, Err}
 use mathlib.Core.Path.{◌≡◌, refl, sym, ap, ◌∙◌}
 use mathlib.Core.Bool.{Bool, true, false, cond}
 use mathlib.Core.List.{List}
-use Prim.Native.Nat.{ℕ, ◌≤◌, ◌<◌}
+use Prim.Native.Nat.{ℕ, ◌≤◌, ◌<◌, ◌/◌}
 use native.Mathlib.Omega.{arith}
-use borrow.Author.Tests.{eqb-true}
+use borrow.Author.Tests.{ltb-true, le-leb, lt-leb}
 use lib.Dec.{T, eqb}
 use mir.Facts.{eqb_yes}
 use Rattle.laws.specs.Lists.{every, from}
 use Rattle.laws.proofs.Lists.{every_from}
 use Rattle.meaning.specs.declared.Cell.{Cell}
+use Rattle.meaning.specs.declared.Reason.{Reason}
+use Rattle.meaning.specs.declared.Refusal.{Refusal}
 use Rattle.meaning.specs.Registers.{cells, first_video, cell, target_group, stage, sample, overlay, scaler, sections, register_among, register_in, register_at}
 use Rattle.meaning.specs.declared.Memory.TheVariants.{Either, Only}
 use Rattle.meaning.specs.Grants.{Terms, grants_of, grants_fine, granted, terms_of}
 use Rattle.meaning.specs.State.{marked, well_formed}
 use Rattle.meaning.specs.Pair.{target_cell, pair_fine}
-use Rattle.meaning.specs.Answers.{Answer, bad_state, bad_grants, not_writable, success, answer}
+use Rattle.meaning.specs.Answers.{Answer, bad_state, bad_grants, not_writable, no_room, success, answer, answer_in, number}
 use Rattle.meaning.specs.Reasons.{CellFine}
-use Rattle.meaning.specs.Writer.{written, size_of, need_for, lowest_bad, with_pair, except_at, size_answer}
+use Rattle.meaning.specs.Writer.{written, size_of, need_for, lowest_bad, with_pair, except_at, size_answer, write_answer}
 use Rattle.meaning.proofs.States.{Sound}
 use Rattle.meaning.proofs.Writing.{need_is_length}
 use Rattle.meaning.proofs.Round.{Lowest, lowest_told}
+use Rattle.sizing.proofs.Sizes.{size_then_write, refused_in}
 use Rattle.emitter_3d.specs.Emitted.{Narrow}
-use Rattle.grants.specs.declared.Part.{Part}
-use Rattle.grants.specs.Kept.{Names, part_of}
-use Rattle.pair.specs.Judged.{pair_of, fine_in, KnownLocal}
+use Rattle.grants.specs.declared.Kept.{Kept}
+use Rattle.grants.specs.declared.RoleGrants.{RoleGrants}
+use Rattle.grants.specs.Held.{IsNamed, OfRole}
+use Rattle.pair.specs.Judged.{pair_of, fine_by, KnownBy}
 use Rattle.pair.proofs.Judged.{fine_is}
 use Rattle.pair.proofs.Ends.{known_held}
-use Rattle.search.specs.Search.{or_end, lowest}
-use Rattle.writer.specs.Lowest.{lowest_with}
+use Rattle.writer.specs.Measured.{passes_target}
 
--- ---- what the number tells of the search among all cells and of the pair
-
--- what a cell's number tells of a cell that was found, or of none
-abbrev Tells : Option Cell → ℕ → Type 0
-Tells f low = (low < cells → (a : Answer) → answer not_writable low ≡ except_at f a) × (cells ≤ low → f ≡ None)
-
-at_cell : (c : Cell) {low : ℕ} → c.0 < cells → low ≡ c.0 → Tells (Some c) low
-at_cell c l e = (λ h a. ap (answer not_writable) e, λ h. absurd (omega arith))
-
-module _ (g : Terms) (st : List ℕ) where
-  -- cell 1 goes before any cell but cell 0
-  with_pair_lem : (fine : Bool) (f : Option Cell) → Lowest g st 0 cells f → {low : ℕ} → low ≡ lowest_with fine (or_end f cells) → Tells (with_pair fine f) low
-  with_pair_lem true (Some c) is e = let same : lowest_with true c.0 ≡ c.0 = as_found c.0 (eqb c.0 0) refl in at_cell c is.to (e ∙ same)
-    where
-      as_found : (n : ℕ) (b : Bool) → eqb n 0 ≡ b → cond b 0 n ≡ n
-      as_found n true z = sym (eqb-true n 0 z)
-      as_found n false z = refl
-  with_pair_lem true None is e = (λ h. absurd (omega arith), λ h. refl)
-  with_pair_lem false (Some c) is e = by (eqb c.0 0) refl e
-    where
-      by : (b : Bool) → eqb c.0 0 ≡ b → {low : ℕ} → low ≡ cond b 0 1 → Tells (cond b (Some c) (Some target_cell)) low
-      by true z x = at_cell c is.to (x ∙ sym (eqb-true c.0 0 z))
-      by false z x = at_cell target_cell (omega arith) x
-  with_pair_lem false None is e = at_cell target_cell (omega arith) e
-
-  told : {low : ℕ} → low ≡ lowest_with (pair_fine g st) (lowest g st 0 cells) → Tells (with_pair (pair_fine g st) (lowest_bad g st 0 cells)) low
-  unfolding lowest
-  told e = with_pair_lem (pair_fine g st) (lowest_bad g st 0 cells) (lowest_told g st 0 cells) e
+-- ---- what is told of the search among all cells and of the pair
 
 -- where memory 0 is all there is, the address that the search has let pass is known to be granted there
-pub passed : (ws st : List ℕ) (starts lasts numbers bounds : List ℕ) → Names (terms_of ws) starts lasts numbers bounds
+pub passed : (ws st : List ℕ) {k : Kept} → IsNamed (terms_of ws) k
     → ((role a : ℕ) → granted (grants_of ws) (Only 0) role a ≡ granted (grants_of ws) Either role a)
-    → {found : ℕ} {part : Part} → found ≡ lowest (terms_of ws) st 0 cells → part ≡ part_of bounds 1 → 1 < found → KnownLocal starts lasts numbers part st
-unfolding lowest
-passed ws st starts lasts numbers bounds names near {found} e its l =
-    rw its (known_held ws starts lasts numbers bounds names near st (cell_1 (lowest_bad (terms_of ws) st 0 cells) (lowest_told (terms_of ws) st 0 cells) (rw e at l)))
+    → {found : Option Cell} {part : RoleGrants} → found ≡ lowest_bad (terms_of ws) st 0 cells → OfRole k 1 part → passes_target found ≡ true → KnownBy part st
+passed ws st {k} names near e its l =
+    rw (its.starts, its.lasts, its.numbers, its.part)
+    (known_held ws k.starts.now k.lasts.now k.numbers.now k.bounds.now names near st (cell_1 (lowest_bad (terms_of ws) st 0 cells) (lowest_told (terms_of ws) st 0 cells) (rw e at l)))
   where
-    cell_1 : (f : Option Cell) → Lowest (terms_of ws) st 0 cells f → 1 < or_end f cells → CellFine (terms_of ws) st target_cell
-    cell_1 (Some c) is l = is.before 1 (omega arith) l
+    cell_1 : (f : Option Cell) → Lowest (terms_of ws) st 0 cells f → passes_target f ≡ true → CellFine (terms_of ws) st target_cell
+    cell_1 (Some c) is l = is.before 1 (omega arith) (ltb-true 1 c.0 l)
     cell_1 None is l = is 1 (omega arith) (omega arith)
 
 -- what is judged of the pair under kept grants is what the definitions say of it
-pub paired : (ws st : List ℕ) → T (grants_fine ws) → (starts lasts numbers bounds : List ℕ) → Names (terms_of ws) starts lasts numbers bounds
-    → {found low : ℕ} {part : Part} → found ≡ lowest (terms_of ws) st 0 cells → part ≡ part_of bounds 1 → low ≡ lowest_with (fine_in starts lasts numbers part (pair_of st)) found
-    → low ≡ lowest_with (pair_fine (terms_of ws) st) (lowest (terms_of ws) st 0 cells)
-paired ws st fine starts lasts numbers bounds names e its is = is ∙ rw (e, its, fine_is ws fine starts lasts numbers bounds names st)
+pub paired : (ws st : List ℕ) → T (grants_fine ws) → {k : Kept} → IsNamed (terms_of ws) k
+    → {found low : Option Cell} {part : RoleGrants} → found ≡ lowest_bad (terms_of ws) st 0 cells → OfRole k 1 part → low ≡ with_pair (fine_by part (pair_of st)) found
+    → low ≡ with_pair (pair_fine (terms_of ws) st) (lowest_bad (terms_of ws) st 0 cells)
+paired ws st fine {k} names e its is =
+    is ∙ rw (e, its.starts, its.lasts, its.numbers, its.part, fine_is ws fine k.starts.now k.lasts.now k.numbers.now k.bounds.now names st)
 
 -- ---- where each marked cell holds what it may, marked 3D values are narrow
 
@@ -99,9 +76,13 @@ sound_narrow g st sound c h m = rw (wide_3d c h) at (sound.fine c (omega arith) 
 -- ---- the answer
 
 -- the words that are needed are as many as are written
-pub as_written : (st : List ℕ) {need : ℕ} → need ≡ need_for (marked st) → need ≡ size_of st
+as_written : (st : List ℕ) {need : ℕ} → need ≡ need_for (marked st) → need ≡ size_of st
 unfolding written
 as_written st e = e ∙ sym (need_is_length (marked st) st)
+
+-- every reason has a number other than 0
+refuses : (r : Reason) → number r ≡ 0 → ⊥
+refuses r = grind arith
 
 module _ (st gs : List ℕ) where
   pub refused_state : well_formed st ≡ false → answer bad_state 0 ≡ size_answer st gs
@@ -112,11 +93,22 @@ module _ (st gs : List ℕ) where
   unfolding size_answer
   refused_grants e f = rw (e, f)
 
-  module _ (e : well_formed st ≡ true) (f : grants_fine gs ≡ true) {low : ℕ} (is : low ≡ lowest_with (pair_fine (terms_of gs) st) (lowest (terms_of gs) st 0 cells)) where
-    pub refused_cell : low < cells → answer not_writable low ≡ size_answer st gs
+  module _ (e : well_formed st ≡ true) (f : grants_fine gs ≡ true) where
+    pub refused_cell : {c : Cell} → Some c ≡ with_pair (pair_fine (terms_of gs) st) (lowest_bad (terms_of gs) st 0 cells) → answer not_writable c.0 ≡ size_answer st gs
     unfolding size_answer
-    refused_cell l = rw (e, f) ((told (terms_of gs) st is).0 l _)
+    refused_cell is = rw (e, f, ← is)
 
-    pub done : cells ≤ low → {need : ℕ} → need ≡ size_of st → answer success need ≡ size_answer st gs
+    pub done : None ≡ with_pair (pair_fine (terms_of gs) st) (lowest_bad (terms_of gs) st 0 cells) → {need : ℕ} → need ≡ need_for (marked st) → answer success need ≡ size_answer st gs
     unfolding size_answer
-    done l n = rw (e, f, (told (terms_of gs) st is).1 l, n)
+    done is n = rw (e, f, ← is, as_written st n)
+
+  -- the room changes nothing of a refusal of the size;
+  pub handed_on : (room : ℕ) (r : Refusal) → answer_in (Err r) ≡ size_answer st gs → answer_in (Err r) ≡ write_answer st gs room
+  handed_on room r e = rw (size_then_write st gs room, ← e) (sym (refused_in room (answer_in (Err r)) (refuses r.reason)))
+
+  -- and where the size is told, it decides
+  pub short : {need room : ℕ} → answer success need ≡ size_answer st gs → room < need → answer no_room 0 ≡ write_answer st gs room
+  short {need} {room} e l = rw (size_then_write st gs room, ← e, lt-leb need room l)
+
+  pub enough : {need room : ℕ} → answer success need ≡ size_answer st gs → need ≤ room → answer success need ≡ write_answer st gs room
+  enough {need} {room} e l = rw (size_then_write st gs room, ← e, le-leb need room l)

@@ -39,6 +39,7 @@ fn with_pair(
 }
 
 // All that is asked of a state and its grants, and the words that are needed: what size and writer have in common.
+#[tactic(auto, using(crate::proofs::Answers::refused_state, crate::proofs::Answers::refused_grants))]
 fn measure(state: &[u8], grants: &[u8]) -> Result<Need, Refusal>
     ensures answer { answer_in (words_needed result) ≡ size_answer (words_of state.now) (words_of grants.now) }
     ensures before_video { IfOk result (λ need. need.before_video ≡ need_among (marked (words_of state.now)) sections_3d) }

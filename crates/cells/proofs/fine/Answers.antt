@@ -1,12 +1,12 @@
 -- A vacant cell may be written; of another its width is asked, and then the reason decides.
 -- Assumes nothing.
 use mathlib.Core.Path.{◌≡◌, refl, sym, ◌∙◌}
+use native.Mathlib.Omega.{arith}
 use lib.Dec.{eqb}
-use Rattle.std.specs.Prelude.{Result, Ok, Err}
+use Rattle.std.specs.Prelude.{Result}
 use Rattle.std.specs.Result.{is_ok}
 use Rattle.laws.proofs.Arms.{told_true, told_false}
 use Rattle.meaning.specs.declared.Reason.{Reason}
-use Rattle.meaning.specs.declared.Reason.TheVariants as by
 use Rattle.meaning.specs.Answers.{reason_in}
 use Rattle.cells.proofs.Known.{known}
 use Rattle.cells.proofs.Asked.{whole, passed_over, looked_at_lem}
@@ -14,23 +14,7 @@ use Rattle.cells.proofs.fine.Goals as goal
 
 -- every reason has a number other than 0
 nothing_against : {A : Type 0} (r : Result A Reason) → is_ok r ≡ eqb (reason_in r) 0
-nothing_against (Ok _) = refl
-nothing_against (Err by.BadState) = refl
-nothing_against (Err by.BadGrants) = refl
-nothing_against (Err by.BadOffset) = refl
-nothing_against (Err by.BadCount) = refl
-nothing_against (Err by.BadSetting) = refl
-nothing_against (Err by.NoRegister) = refl
-nothing_against (Err by.BitSet) = refl
-nothing_against (Err by.BadValue) = refl
-nothing_against (Err by.NotGranted) = refl
-nothing_against (Err by.EndsInside) = refl
-nothing_against (Err by.NoRoom) = refl
-nothing_against (Err by.NotWritable) = refl
-nothing_against (Err by.BadBuffer) = refl
-nothing_against (Err by.BadPair) = refl
-nothing_against (Err by.NotAListing) = refl
-nothing_against (Err by.EngineFull) = refl
+nothing_against r = grind arith
 
 pub value-value-requires : goal.value-value-requires
 value-value-requires c = record { whole = whole _ c.requires.formed; inside = (known c.requires.row.1).low }

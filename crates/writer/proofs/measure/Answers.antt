@@ -9,23 +9,16 @@ use mir.Facts.{eqb_yes}
 use Rattle.laws.proofs.Tests.{holds_of}
 use Rattle.meaning.specs.Words.{words_of}
 use Rattle.meaning.specs.Registers.{cells}
-use Rattle.meaning.specs.declared.Memory.TheVariants.{Either, Only}
-use Rattle.meaning.specs.Grants.{grants_of, grants_fine, granted, terms_of}
+use Rattle.meaning.specs.Grants.{grants_fine, terms_of}
 use Rattle.meaning.specs.State.{state_words, well_formed}
 use Rattle.meaning.specs.Pair.{pair_fine}
-use Rattle.meaning.specs.Answers.{Answer, answer}
-use Rattle.grants.specs.Kept.{Keeps, Names, Bounded}
-use Rattle.search.specs.Search.{lowest}
+use Rattle.meaning.specs.Writer.{with_pair, lowest_bad}
+use Rattle.grants.specs.Kept.{Names, Bounded}
 use Rattle.meaning.proofs.States.{formed_iff}
 use Rattle.keeping.proofs.Keeping.{begun_by_lem, names_after, kept_after, near_after}
-use Rattle.writer.specs.Lowest.{lowest_with}
-use Rattle.writer.proofs.Answers.{passed, paired, as_written, refused_state, refused_grants, refused_cell, done}
+use Rattle.writer.proofs.Answers.{passed, paired, refused_state, refused_grants, refused_cell, done}
 use Rattle.writer.proofs.measure.Goals as goal
-use Rattle.writer.proofs.measure.Goals.{After-place, After-with_pair-lowest, Else-not-begin, Else-not-well_formed}
-
--- a refusal is the size's answer, and tells nothing of the words
-refusal : {told size : Answer} {r p : ℕ} {Words : Type 0} → told ≡ answer r p → answer r p ≡ size → (r ≡ 0 → ⊥) → (told ≡ size) × (told.reason ≡ 0 → Words)
-refusal e is n = (e ∙ is, λ z. absurd (n (sym (ap (λ (a : Answer). a.reason) e) ∙ z)))
+use Rattle.writer.proofs.measure.Goals.{After-lowest_bad-found, After-place, After-with_pair, Else-not-begin, Else-not-well_formed}
 
 -- the state is well-formed, and so it is whole
 formed : (c : goal.Else-not-well_formed) → well_formed (words_of c.args.state.now) ≡ true
@@ -45,81 +38,50 @@ named c =
     let k = c.place.ensures in
     names_after _ _ _ _ (refl, (refl, refl)) (sym c.if-not-begin.ensures.fine) (k.starts, (k.lasts, (k.numbers, k.bounds)))
 
-kept : (c : goal.After-place) → Keeps (terms_of (words_of c.args.grants.now)) c.place.new.starts c.place.new.lasts c.place.new.bounds
-kept c =
+-- the lowest bad cell of all, as the search found it
+found : (c : goal.After-lowest_bad-found) → c.lowest_bad-found.result ≡ lowest_bad (terms_of (words_of c.args.grants.now)) (words_of c.args.state.now) 0 cells
+found c =
     let k = c.place.ensures in
-    (kept_after _ _ _ _ (refl, (refl, refl)) (sym c.if-not-begin.ensures.fine) (k.starts, (k.lasts, (k.numbers, k.bounds)))).0
+    c.lowest_bad-found.ensures.lowest _ (kept_after _ _ _ _ (refl, (refl, refl)) (sym c.if-not-begin.ensures.fine) (k.starts, (k.lasts, (k.numbers, k.bounds)))).0
 
--- where none of them is in memory 1, memory 0 is all there is
-near : (c : goal.After-place) → get_or c.place.new.bounds 4 0 ≡ 0
-    → (role a : ℕ) → granted (grants_of (words_of c.args.grants.now)) (Only 0) role a ≡ granted (grants_of (words_of c.args.grants.now)) Either role a
-near c none =
-    let k = c.place.ensures in
-    near_after _ _ _ _ (refl, (refl, refl)) (sym c.if-not-begin.ensures.fine) (k.starts, (k.lasts, (k.numbers, k.bounds))) none
-
--- the lowest bad cell, by the search and by the pair
-low : (c : goal.After-with_pair-lowest) → Names (terms_of (words_of c.args.grants.now)) c.place.new.starts c.place.new.lasts c.place.new.numbers c.place.new.bounds
-    → Keeps (terms_of (words_of c.args.grants.now)) c.place.new.starts c.place.new.lasts c.place.new.bounds
+-- and with the pair
+low : (c : goal.After-with_pair) → Names (terms_of (words_of c.args.grants.now)) c.place.new.starts c.place.new.lasts c.place.new.numbers c.place.new.bounds
     → let g = terms_of (words_of c.args.grants.now) in let st = words_of c.args.state.now in
-    c.with_pair-lowest.result ≡ lowest_with (pair_fine g st) (lowest g st 0 cells)
-low c names keeps =
-    let k = c.place.new in
-    paired (words_of c.args.grants.now) (words_of c.args.state.now) (holds_of (sym c.if-not-begin.ensures.fine)) k.starts k.lasts k.numbers k.bounds names
-    (c.lowest_bad-found.ensures.lowest _ keeps) c.part_of-part.ensures.part c.with_pair-lowest.ensures.lowest
+    c.lowest_bad-found.result ≡ lowest_bad g st 0 cells → c.with_pair.result ≡ with_pair (pair_fine g st) (lowest_bad g st 0 cells)
+low c names is =
+    paired (words_of c.args.grants.now) (words_of c.args.state.now) (holds_of (sym c.if-not-begin.ensures.fine)) names is c.part_of-part.ensures.role
+    c.with_pair.ensures.lowest
 
-pub returns-then-not-well_formed : goal.returns-then-not-well_formed
-returns-then-not-well_formed c =
-    let both = refusal c.refused.ensures.answer (refused_state _ _ (sym c.if-not-well_formed.ensures.formed)) (λ e. omega arith) in
-    record { answer = both.0; before_video = both.1 }
 
-pub returns-then-not-begin : goal.returns-then-not-begin
-returns-then-not-begin c =
-    let both =
-    refusal c.refused-then-not-begin.ensures.answer
-    (refused_grants _ _ (formed (goal.at.returns-then-not-begin c).Else-not-well_formed) (sym c.if-not-begin.ensures.fine)) (λ e. omega arith) in
-    record { answer = both.0; before_video = both.1 }
 
-pub place-requires : goal.place-requires
-place-requires c =
-    let f = fine (goal.at.place-requires c).Else-not-begin in
-    record { fine = holds_of f; begun = c.begin.ensures.begun ∙ begun_by_lem _ f }
+pub place-requires-clause-begun : goal.place-requires-clause-begun
+place-requires-clause-begun c = c.begin.ensures.begun ∙ begun_by_lem _ (fine (goal.at.place-requires-clause-begun c).Else-not-begin)
 
-pub lowest_bad-found-requires : goal.lowest_bad-found-requires
-lowest_bad-found-requires c =
-    let at = goal.at.lowest_bad-found-requires c in
-    record { formed = holds_of (formed at.Else-not-well_formed); bounded = (named at.After-place).1 }
+pub invariant_of-kept : goal.invariant_of-kept
+invariant_of-kept c = record { bounded = (named (goal.at.invariant_of-kept c).After-place).1 }
 
-pub with_pair-lowest-requires : goal.with_pair-lowest-requires
-with_pair-lowest-requires c =
-    let at = goal.at.with_pair-lowest-requires c in
-    let k = c.place.new in
-    let its = c.part_of-part.ensures.part in
-    record {
-      whole = formed_whole at.Else-not-well_formed;
-      inside = rw its ((named at.After-place).1 1 (omega arith));
-      near = λ t l.
-          passed (words_of c.args.grants.now) (words_of c.args.state.now) k.starts k.lasts k.numbers k.bounds (named at.After-place).0
-          (near at.After-place (eqb_yes (holds_of t))) (c.lowest_bad-found.ensures.lowest _ (kept at.After-place)) its l;
-    }
+pub with_pair-requires-clause-whole : goal.with_pair-requires-clause-whole
+with_pair-requires-clause-whole c = formed_whole (goal.at.with_pair-requires-clause-whole c).Else-not-well_formed
 
-pub returns-then-lowest-lt-CELLS : goal.returns-then-lowest-lt-CELLS
-returns-then-lowest-lt-CELLS c =
-    let at = goal.at.returns-then-lowest-lt-CELLS c in
-    let lowest = low at.After-with_pair-lowest (named at.After-place).0 (kept at.After-place) in
-    let both =
-    refusal c.refused-then-lowest-lt-CELLS.ensures.answer
-    (refused_cell _ _ (formed at.Else-not-well_formed) (fine at.Else-not-begin) lowest (omega (arith, c.if-lowest-lt-CELLS.true))) (λ e. omega arith) in
-    record { answer = both.0; before_video = both.1 }
+pub with_pair-requires-clause-near : goal.with_pair-requires-clause-near
+with_pair-requires-clause-near c =
+    let at = goal.at.with_pair-requires-clause-near c in
+    let k = c.place.ensures in
+    λ t l. passed (words_of c.args.grants.now) (words_of c.args.state.now) (named at.After-place).0
+        (near_after _ _ _ _ (refl, (refl, refl)) (sym c.if-not-begin.ensures.fine) (k.starts, (k.lasts, (k.numbers, k.bounds))) (eqb_yes (holds_of t)))
+        (found at.After-lowest_bad-found) c.part_of-part.ensures.role l
 
-pub needed-need-requires : goal.needed-need-requires
-needed-need-requires c = record { whole = formed_whole (goal.at.needed-need-requires c).Else-not-well_formed }
+pub returns-in-Some-clause-answer : goal.returns-in-Some-clause-answer
+returns-in-Some-clause-answer c =
+    let at = goal.at.returns-in-Some-clause-answer c in
+    let lowest = low at.After-with_pair (named at.After-place).0 (found at.After-lowest_bad-found) in
+    rw c.at-in-Some.ensures.at (refused_cell _ _ (formed at.Else-not-well_formed) (fine at.Else-not-begin) (sym c.in-Some.is ∙ lowest))
 
-pub returns : goal.returns
-returns c =
-    let at = goal.at.returns c in
-    let lowest = low at.After-with_pair-lowest (named at.After-place).0 (kept at.After-place) in
-    let need = c.needed-need.ensures in
-    record {
-      answer = done _ _ (formed at.Else-not-well_formed) (fine at.Else-not-begin) lowest c.if-lowest-lt-CELLS.false (as_written _ need.in_all);
-      before_video = λ e. need.before_video;
-    }
+pub needed-requires : goal.needed-requires
+needed-requires c = record { whole = formed_whole (goal.at.needed-requires c).Else-not-well_formed }
+
+pub returns-clause-answer : goal.returns-clause-answer
+returns-clause-answer c =
+    let at = goal.at.returns-clause-answer c in
+    let lowest = low at.After-with_pair (named at.After-place).0 (found at.After-lowest_bad-found) in
+    done _ _ (formed at.Else-not-well_formed) (fine at.Else-not-begin) (sym c.in_default.is ∙ lowest) c.needed.ensures.in_all

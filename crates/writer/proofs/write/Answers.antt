@@ -1,49 +1,31 @@
--- A refusal leaves the output as it was; with none, there is room, and the words stand over the front of the output.
+-- The size decides, then the room; with both, the words are written.
 -- Assumes nothing.
-use mathlib.Core.Path.{◌≡◌, sym, ap, ◌∙◌}
-use Prim.Native.Nat.{◌/◌, ◌≤◌}
+use mathlib.Core.Path.{◌≡◌, refl, sym, ap, ◌∙◌}
 use native.Mathlib.Omega.{arith}
-use lib.ListN.{length}
+use Rattle.std.proofs.lemmas.Result.{err_from_is_err_and}
 use Rattle.meaning.specs.Answers.{Answer}
-use Rattle.meaning.specs.Words.{words_of}
-use Rattle.meaning.specs.Writer.{write_answer}
-use Rattle.meaning.proofs.Bytes.{settle_refused, settle_done}
-use Rattle.sizing.proofs.Sizes.{size_then_write, done_in, sized}
-use Rattle.writer.proofs.Answers.{sound_narrow}
+use Rattle.sizing.proofs.Sizes.{sized}
+use Rattle.writer.proofs.Answers.{sound_narrow, handed_on, short, enough}
 use Rattle.writer.proofs.write.Goals as goal
-use Rattle.writer.proofs.write.Goals.{After-in_room-told, Else-told-ne-SUCCESS}
 
--- the answer that is told is the writer's
-told : (c : goal.After-in_room-told) → c.in_room-told.result ≡ write_answer (words_of c.args.state.now) (words_of c.args.grants.now) (length c.args.out.now / 4)
-told c = c.in_room-told.ensures.answer ∙ rw c.measure-asked.ensures.answer (sym (size_then_write _ _ _))
+pub returns-in_err-need-clause-answer : goal.returns-in_err-need-clause-answer
+returns-in_err-need-clause-answer c =
+    let p = err_from_is_err_and c.from_residual.result c.from_residual.ensures.1 in
+    rw (p.1, p.2) (handed_on _ _ _ _ c.in_err-need.ensures.answer)
 
-pub returns-then-told-ne-SUCCESS : goal.returns-then-told-ne-SUCCESS
-returns-then-told-ne-SUCCESS c = record {
-  answer = told (goal.at.returns-then-told-ne-SUCCESS c).After-in_room-told;
-  bytes = sym (settle_refused c.in_room-told.result _ _ c.if-told-ne-SUCCESS.true);
-}
+pub returns-then-out-need-clause-answer : goal.returns-then-out-need-clause-answer
+returns-then-out-need-clause-answer c = rw c.at.ensures.at (short _ _ c.in_ok-need.ensures.answer c.if-out-need.true)
 
--- with no refusal the size is told, and is not more than the room
-enough : (c : goal.Else-told-ne-SUCCESS) → (c.measure-asked.result.answer.reason ≡ 0) × (c.measure-asked.result.answer.place ≤ length c.args.out.now / 4)
-enough c =
-    let d = done_in _ c.measure-asked.result.answer (sym (ap (λ (a : Answer). a.reason) c.in_room-told.ensures.answer) ∙ c.if-told-ne-SUCCESS.false) in
-    (d.0, d.1)
+pub emit-requires-clause-whole : goal.emit-requires-clause-whole
+emit-requires-clause-whole c = (sized _ _ (sym (ap (λ (a : Answer). a.reason) c.in_ok-need.ensures.answer))).1.formed.size
 
-pub emit-requires : goal.emit-requires
-emit-requires c =
-    let m = c.measure-asked in
-    let fits = enough (goal.at.emit-requires c).Else-told-ne-SUCCESS in
-    let told = sized _ _ (sym (ap (λ (a : Answer). a.reason) m.ensures.answer) ∙ fits.0) in
-    let place : m.result.answer.place ≡ _ = ap (λ (a : Answer). a.place) m.ensures.answer ∙ told.2 in
-    record {
-      whole = told.1.formed.size;
-      narrow = sound_narrow _ _ told.1;
-      room = omega (arith, place, fits.1);
-      before_video = m.ensures.before_video fits.0;
-    }
+pub emit-requires-clause-narrow : goal.emit-requires-clause-narrow
+emit-requires-clause-narrow c = sound_narrow _ _ (sized _ _ (sym (ap (λ (a : Answer). a.reason) c.in_ok-need.ensures.answer))).1
 
-pub returns : goal.returns
-returns c = record {
-  answer = told (goal.at.returns c).After-in_room-told;
-  bytes = c.emit.ensures.words ∙ sym (settle_done c.in_room-told.result _ _ c.if-told-ne-SUCCESS.false);
-}
+pub emit-requires-clause-room : goal.emit-requires-clause-room
+emit-requires-clause-room c =
+    let e = sized _ _ (sym (ap (λ (a : Answer). a.reason) c.in_ok-need.ensures.answer)) in
+    omega (arith, e.2, ap (λ (a : Answer). a.place) c.in_ok-need.ensures.answer, c.if-out-need.false)
+
+pub returns-clause-answer : goal.returns-clause-answer
+returns-clause-answer c = enough _ _ c.in_ok-need.ensures.answer c.if-out-need.false
