@@ -27,7 +27,8 @@ use Rattle.headers.specs.Headers.{group_of}
 use Rattle.headers.specs.Told.{Leads}
 use Rattle.headers.proofs.Groups.{names}
 use Rattle.bodies.specs.Passes.{passed, Comes, body_from}
-use Rattle.bodies.proofs.Bodies.{else_stop, refused, comes}
+use Rattle.meaning.proofs.Refusals.{refused}
+use Rattle.bodies.proofs.Bodies.{else_stop, comes}
 use Rattle.packets.specs.Packets.{headed}
 
 -- ---- a header, and the words at hand

@@ -24,7 +24,8 @@ use Rattle.meaning.specs.Reader.{header_reason, word_reason, judge, follow, ende
 use Rattle.meaning.proofs.States.{applied_append}
 use Rattle.meaning.proofs.Stretches.{after_all}
 use Rattle.bodies.specs.Passes.{Passed, passed, answer_of, Comes, or_else, applied, body_from}
-use Rattle.bodies.proofs.Bodies.{else_on, else_stop, refused, comes}
+use Rattle.meaning.proofs.Refusals.{refused}
+use Rattle.bodies.proofs.Bodies.{else_on, else_stop, comes}
 use Rattle.packets.specs.Packets.{headed, up_to, packet_from, ends, packets_from}
 
 -- ---- a packet, from what was read of it
