@@ -22,6 +22,7 @@ use Rattle.meaning.specs.Pair.{target_cell, pair_fine}
 use Rattle.meaning.specs.Answers.{Answer, bad_state, bad_grants, not_writable, no_room, success, answer, answer_in, number}
 use Rattle.meaning.specs.Reasons.{CellFine}
 use Rattle.meaning.specs.Writer.{written, size_of, need_for, lowest_bad, with_pair, except_at, size_answer, write_answer}
+use Rattle.meaning.proofs.Refusals.{refused}
 use Rattle.meaning.proofs.States.{Sound}
 use Rattle.meaning.proofs.Writing.{need_is_length}
 use Rattle.meaning.proofs.Round.{Lowest, lowest_told}
@@ -80,10 +81,6 @@ as_written : (st : List ℕ) {need : ℕ} → need ≡ need_for (marked st) → 
 unfolding written
 as_written st e = e ∙ sym (need_is_length (marked st) st)
 
--- every reason has a number other than 0
-refuses : (r : Reason) → number r ≡ 0 → ⊥
-refuses r = grind arith
-
 module _ (st gs : List ℕ) where
   pub refused_state : well_formed st ≡ false → answer bad_state 0 ≡ size_answer st gs
   unfolding size_answer
@@ -104,7 +101,7 @@ module _ (st gs : List ℕ) where
 
   -- the room changes nothing of a refusal of the size;
   pub handed_on : (room : ℕ) (r : Refusal) → answer_in (Err r) ≡ size_answer st gs → answer_in (Err r) ≡ write_answer st gs room
-  handed_on room r e = rw (size_then_write st gs room, ← e) (sym (refused_in room (answer_in (Err r)) (refuses r.reason)))
+  handed_on room r e = rw (size_then_write st gs room, ← e) (sym (refused_in room (answer_in (Err r)) (refused r.reason)))
 
   -- and where the size is told, it decides
   pub short : {need room : ℕ} → answer success need ≡ size_answer st gs → room < need → answer no_room 0 ≡ write_answer st gs room
