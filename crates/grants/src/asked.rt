@@ -4,8 +4,21 @@ ghost use Rattle.meaning.specs.Grants.{most_grants};
 ghost use Rattle.grants.specs.Kept as kept;
 ghost use Rattle.grants.specs.Held.{OfRole, which_of};
 
-use super::{Kept, Part, RoleGrants, lies, numbered};
+use super::{Bounds, Kept, Part, RoleGrants, lies, numbered};
 use meaning::Memory;
+
+impl Part {
+    // The part of a role, by whatever bounds.
+    pub fn of(bounds: &Bounds, role: usize) -> Part
+        requires role { role < 4 }
+        ensures part { result ≡ kept.part_of bounds.now role }
+    {
+        Part {
+            from: bounds[role],
+            to: bounds[4 + role],
+        }
+    }
+}
 
 impl<'a> Kept<'a> {
     // Those of a role.
@@ -17,10 +30,7 @@ impl<'a> Kept<'a> {
             starts: self.starts,
             lasts: self.lasts,
             numbers: self.numbers,
-            part: Part {
-                from: self.bounds[role],
-                to: self.bounds[4 + role],
-            },
+            part: Part::of(self.bounds, role),
         }
     }
 }

@@ -39,6 +39,7 @@ use Rattle.states.proofs.load.Reads as load
 use Rattle.states.proofs.store.Reads as store
 use Rattle.registers.proofs.name_of.Reads as name_of
 use Rattle.registers.proofs.offset_of.Reads as offset_of
+use Rattle.grants.proofs.Part.of.Reads as part_by
 use Rattle.grants.proofs.Kept.part_of.Reads as part_of
 use Rattle.grants.proofs.RoleGrants.which.Reads as which
 use Rattle.keeping.proofs.begin.Reads as begin
@@ -254,6 +255,9 @@ pub offset_of_asks : AsksExactly offset_of.Asked (λ _ (cell, _). (first_video �
 offset_of_asks κs a = asks_this
 
 -- ---- grants
+
+pub part_by_asks : AsksExactly part_by.Asked (λ _ (_, (role, _)). role < 4)
+part_by_asks κs a = asks_this
 
 pub part_of_asks : AsksExactly part_of.Asked (λ _ (_, (role, _)). role < 4)
 part_of_asks κs a = asks_this

@@ -46,6 +46,7 @@ use Rattle.states.proofs.load.Reads as load
 use Rattle.states.proofs.store.Reads as store
 use Rattle.states.proofs.well_formed.Reads as well_formed
 use Rattle.states.proofs.marked_between.Reads as marked_between
+use Rattle.grants.proofs.Part.of.Reads as part_by
 use Rattle.grants.proofs.Kept.part_of.Reads as part_of
 use Rattle.grants.proofs.RoleGrants.which.Reads as which
 use Rattle.rows_3d.proofs.alpha_constants_reason.Reads as alpha_constants_reason
@@ -200,6 +201,9 @@ pub marked_between_one : Determined marked_between.Learnt
 marked_between_one κs a r r' s s' p q = one_answer p q
 
 -- ---- grants
+
+pub part_by_one : Determined part_by.Learnt
+part_by_one κs a r r' s s' p q = one_answer p q
 
 -- all that there is of it at run time
 pub part_of_one : (κs : _) (a : _) (r r' : _) (s s' : _) → part_of.Learnt κs a r s → part_of.Learnt κs a r' s'
