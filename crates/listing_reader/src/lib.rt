@@ -2,16 +2,16 @@
 // if the whole text is a listing. Only where a line does not fit are all lines tried that may stand there, for the place.
 #![tactic(auto)]
 
-ghost use Rattle.std.specs.Prelude.{◌≡◌, false, ◌<◌, ◌≤◌, length, drop};
+ghost use Rattle.std.specs.Prelude.{◌≡◌, ◌≤◌, length, drop, IfOk, IfErr};
 ghost use Rattle.laws.specs.Lists.{over};
 ghost use Rattle.meaning.specs.Words.{words_of, bytes_of};
 ghost use Rattle.meaning.specs.Registers.{cells};
 ghost use Rattle.meaning.specs.State.{state_words, apply_all};
 ghost use Rattle.meaning.specs.Answers.{answer_in, settle};
-ghost use Rattle.meaning.specs.ListingReader.{along, form_of, head_form, table_lines, further, read_lines, listing_answer, listing_leaves};
+ghost use Rattle.meaning.specs.ListingReader.{along, form_of, head_form, table_lines, refused, further, read_lines, read_first, listing_answer, listing_leaves};
 ghost use Rattle.listings.specs.Lines.{line_for};
 ghost use Rattle.line_reader.specs.Named.{digit_table};
-ghost use Rattle.listing_reader.specs.Counted.{decimal_or_10, CountRun};
+ghost use Rattle.listing_reader.specs.Counted.{decimal_digit, Counted};
 
 use meaning::{Answer, CELLS, FIRST_VIDEO, Reason, STATE_WORDS, State};
 
@@ -56,17 +56,15 @@ fn read_lines(digits: &[u8; 256], text: &[u8], start: usize, n: usize, state: &m
     ensures state { state.new ≡ apply_all state.old (read_lines table_lines n (drop start text.now)).writes }
 {
     let mut at = start;
-    let mut left = n;
     let mut c = 0;
-    while left != 0 {
-        let end = CELLS + 1 - left;
+    for i in 0..n {
+        let end = CELLS + 1 - (n - i);
         let line = line_reader::read_line(digits, text, at, c, end);
         let found = line.cell;
         if CELLS <= found {
             return Err(Reason::NotAListing.at(at + line_places::furthest(text, at, c, end)));
         }
         at += width(found);
-        left -= 1;
         c = found + 1;
         state[found] = line.value;
         state[CELLS + found] = 1;
@@ -77,70 +75,50 @@ fn read_lines(digits: &[u8; 256], text: &[u8], start: usize, n: usize, state: &m
     Ok(at)
 }
 
-// What a decimal digit counts; 10 for any other byte.
-fn decimal_of(x: u8) -> usize
-    ensures digit { result ≡ decimal_or_10 x }
+// What a decimal digit counts.
+fn decimal_of(x: u8) -> Option<usize>
+    ensures digit { result ≡ decimal_digit x }
 {
     match x {
-        48..=57 => x as usize - 48,
-        _ => 10,
+        b'0'..=b'9' => Some(x as usize - 48),
+        _ => None,
     }
 }
 
-// The count, and where its line ends; or that there is none, and the byte that shows it.
+// The count, and where its line ends.
 #[derive(Clone, Copy)]
 struct Head {
-    fine: bool,
     at: usize,
     count: usize,
 }
 
-fn no_count(at: usize) -> Head
-    ensures none { (result.fine ≡ false) × (result.at ≡ at) × (result.count ≡ 0) }
-{
-    Head {
-        fine: false,
-        at,
-        count: 0,
-    }
-}
-
-// The count from `start` on, and the end of its line.
-fn read_count(text: &[u8], start: usize) -> Head
+// The count from `start` on, and the end of its line; or the byte that shows that there is none.
+fn read_count(text: &[u8], start: usize) -> Result<Head, usize>
     requires inside { start ≤ length text.now }
-    ensures count { CountRun text.now start result.fine result.at result.count }
+    ensures count { IfOk result (λ head. Counted text.now start head.at head.count) }
+    ensures none { IfErr result (λ at. further start (read_first (drop start text.now)) ≡ refused at) }
 {
     if text.len() <= start {
-        return no_count(start);
+        return Err(start);
     }
-    let mut n = decimal_of(text[start]);
-    if 9 < n {
-        return no_count(start);
-    }
-    let mut at = start + 1;
-    while at < text.len() {
+    let Some(first) = decimal_of(text[start]) else {
+        return Err(start);
+    };
+    let mut count = first;
+    for at in start + 1..text.len() {
         let x = text[at];
         if x == b'\n' {
-            return Head {
-                fine: true,
-                at: at + 1,
-                count: n,
-            };
+            return Ok(Head { at: at + 1, count });
         }
-        let d = decimal_of(x);
-        if 9 < d {
-            return no_count(at);
+        let Some(d) = decimal_of(x) else {
+            return Err(at);
+        };
+        if count == 0 || CELLS < count * 10 + d {
+            return Err(at);
         }
-        if n == 0 {
-            return no_count(at);
-        }
-        if CELLS < n * 10 + d {
-            return no_count(at);
-        }
-        n = n * 10 + d;
-        at += 1;
+        count = count * 10 + d;
     }
-    no_count(at)
+    Err(text.len())
 }
 
 // How many bytes from the front on are those of the first line's key.
@@ -149,6 +127,7 @@ fn key_bytes(text: &[u8]) -> usize
 {
     let key = *b"cells=";
     let mut i = 0;
+    // Kept a counted loop: with `for` the compiler unrolls it, and the lines behind the key then cost three instructions more each.
     while i < 6 {
         if text.len() <= i {
             return i;
@@ -161,8 +140,9 @@ fn key_bytes(text: &[u8]) -> usize
     i
 }
 
-// Reads a listing back: 1 if the buffer of the state is not as long as a state, 19 at the first byte that begins no listing, or at
-// the text's length if it is cut short; else 0 and the text's length. What the buffer held does not matter, and a refusal leaves it; bytes past its last whole word stay.
+// Reads a listing back, and tells the text's length: refused if the buffer of the state is not as long as a state, and at the first byte that
+// begins no listing, or at the text's length if it is cut short. What the buffer held does not matter, and a refusal leaves it; bytes past its
+// last whole word stay.
 pub fn read_listing(text: &[u8], state: &mut [u8]) -> Answer
     ensures answer { answer_in result ≡ listing_answer text.now (words_of state.old) }
     ensures bytes { state.new ≡ settle (answer_in result) (over (bytes_of (listing_leaves text.now (words_of state.old))) state.old) state.old }
@@ -174,13 +154,11 @@ pub fn read_listing(text: &[u8], state: &mut [u8]) -> Answer
     if agreed < 6 {
         return Err(Reason::NotAListing.at(agreed));
     }
-    let head = read_count(text, 6);
-    if !head.fine {
-        return Err(Reason::NotAListing.at(head.at));
-    }
+    let head = read_count(text, 6).map_err(|at| Reason::NotAListing.at(at))?;
     let digits = DIGITS;
     let mut own = [0u32; STATE_WORDS];
-    let place = read_lines(&digits, text, head.at, head.count, &mut own)?;
+    let read = read_lines(&digits, text, head.at, head.count, &mut own);
+    let place = read?;
     states::store(&own, state);
     Ok(place)
 }

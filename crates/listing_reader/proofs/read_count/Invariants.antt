@@ -1,12 +1,7 @@
--- The digits so far make n, and to read on from here is to read the count.
+-- The digits so far make the count, and to read on from here is to read the count.
 -- Assumes nothing.
-use Prim.Native.Nat.{◌-◌}
-use lib.ListN.{length}
 use Rattle.listing_reader.proofs.Counts.{Counting}
 use Rattle.listing_reader.proofs.read_count.Given as goal
 
 abbrev pub invariant-loop-at : goal.invariant-loop-at
-invariant-loop-at l = Counting l.text l.start l.at l.n
-
-abbrev pub decreases-loop-at : goal.decreases-loop-at
-decreases-loop-at l = length l.text - l.at
+invariant-loop-at l = Counting l.text l.start l.at l.count
