@@ -4,14 +4,12 @@ ghost use Rattle.std.specs.Prelude.{◌≤◌};
 use super::calls;
 use super::dice::Dice;
 use super::listing::Listing;
-use super::page::BadPage;
 use super::readers::Readers;
 use super::state::{CELLS, some_old_words};
 use std::io;
 
-// What is done to each listing, in the order of the page's numbers: it is read back as it is; cut after each of its
-// bytes; changed in each byte, in eight ways; damaged in its lines; counted otherwise; made of two of its lines; read
-// into buffers of all lengths.
+// What is done to each listing: it is read back as it is; cut after each of its bytes; changed in each byte, in eight
+// ways; damaged in its lines; counted otherwise; made of two of its lines; read into buffers of all lengths.
 #[derive(Clone, Copy, PartialEq, Eq)]
 pub(super) enum Family {
     ThereAndBack,
@@ -23,24 +21,18 @@ pub(super) enum Family {
     Lent,
 }
 
-const FAMILIES: [Family; 7] = [
-    Family::ThereAndBack,
-    Family::Cut,
-    Family::Changed,
-    Family::Lines,
-    Family::Counted,
-    Family::Paired,
-    Family::Lent,
-];
-
-impl TryFrom<u32> for Family {
-    type Error = BadPage;
-
-    fn try_from(number: u32) -> Result<Family, BadPage> {
-        FAMILIES
-            .get(number as usize)
-            .copied()
-            .ok_or(BadPage::NoSuchFamily)
+// The page's numbers: with 0, or any other, a listing is read back as it is.
+impl From<u8> for Family {
+    fn from(number: u8) -> Family {
+        match number {
+            1 => Family::Cut,
+            2 => Family::Changed,
+            3 => Family::Lines,
+            4 => Family::Counted,
+            5 => Family::Paired,
+            6 => Family::Lent,
+            _ => Family::ThereAndBack,
+        }
     }
 }
 
@@ -100,9 +92,10 @@ impl Change {
 const ALL: usize = 999;
 
 impl Readers {
-    // So many made-up listings, each gone through as the family has it.
-    pub(super) fn run_family(&mut self, family: Family, listings: usize) -> io::Result<()> {
-        let dice = Dice((family as u32) << 20);
+    // So many made-up listings, each gone through as the family of that number has it.
+    pub(super) fn run_family(&mut self, number: u8, listings: usize) -> io::Result<()> {
+        let family = Family::from(number);
+        let dice = Dice(u32::from(number) << 20);
         for k in 0..listings {
             let thrown = dice.thrown(k);
             let listing = Listing::made_up(self.alloc, family.cells(k), thrown.thrown(1))?;

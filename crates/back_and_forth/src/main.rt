@@ -18,11 +18,15 @@ mod tally;
 
 use readers::Readers;
 use std::io;
+use std::io::Read;
+
+// As many bytes of the page as are read; what stands behind them is not looked at.
+const MOST_BYTES: u64 = 65536;
 
 fn main(rt: HostRuntime) -> io::Result<()> {
     let mut readers = Readers::new(rt)?;
-    for line in rt.lines(rt.alloc()) {
-        readers.run_line(&line?)?;
-    }
+    let mut page = Vec::new(rt.alloc());
+    rt.stdin().take(MOST_BYTES).read_to_end(&mut page)?;
+    readers.run_page(&page)?;
     readers.tally.tell_end()
 }

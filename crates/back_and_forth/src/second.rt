@@ -63,11 +63,20 @@ fn digit(byte: u8) -> Option<u32> {
     }
 }
 
-// What stands in a column of a cell's line.
+// What stands in a column of a cell's line. In a table # stands for a digit.
 #[derive(Clone, Copy)]
 enum Wanted {
     Byte(u8),
     Digit,
+}
+
+impl From<u8> for Wanted {
+    fn from(byte: u8) -> Wanted {
+        match byte {
+            b'#' => Wanted::Digit,
+            _ => Wanted::Byte(byte),
+        }
+    }
 }
 
 impl Wanted {
@@ -77,12 +86,6 @@ impl Wanted {
             Wanted::Digit => digit(byte).is_some(),
         }
     }
-}
-
-#[derive(Clone, Copy)]
-struct Column {
-    part: Part,
-    wanted: Wanted,
 }
 
 // A line as it is known behind the last byte taken: its next column, and the cells that it may be of. The lines are in
@@ -152,60 +155,65 @@ impl At {
     }
 }
 
-// The lines of the cells, in their order.
+// What stands in every line in front of the cell's eight bytes, and behind them: a value has eight digits, of which that
+// of a 3D register uses six. The eight bytes of a video register end in ` val`.
+const IN_FRONT: &[u8; 4] = b"reg=";
+
+const BEHIND_3D: &[u8] = b" val=00######\n";
+
+const BEHIND_VIDEO: &[u8] = b"=########\n";
+
+// The part of a cell's line in which a column stands.
+fn part_of_line(cell: usize, column: usize) -> Part {
+    let name_ends = if cell < FIRST_WIDE { 12 } else { 8 };
+    match column {
+        0..=3 => Part::Reg,
+        _ if column < name_ends => Part::Name,
+        _ if column < name_ends + 5 => Part::Val,
+        _ if column < name_ends + 13 => Part::Value,
+        _ => Part::LineEnd,
+    }
+}
+
+// The names of the cells, in their order: eight bytes of each one's line, those behind `reg=`.
 #[derive(Drop)]
 pub(super) struct Registers {
-    alloc: Global,
-    lines: Vec<Vec<Column>>,
+    names: Vec<u8>,
 }
 
 impl Registers {
     pub(super) fn new(alloc: Global) -> Registers {
         Registers {
-            alloc,
-            lines: Vec::new(alloc),
+            names: Vec::new(alloc),
         }
     }
 
-    // Adds the next cell's line, by the eight bytes behind `reg=`: a name of eight bytes, or one of four and ` val`. A
-    // value has eight digits, of which that of a 3D register uses six.
-    pub(super) fn push(&mut self, named: &str) -> Result<(), AllocError> {
-        let name = named.strip_suffix(" val").unwrap_or(named);
-        let value = if self.lines.len() < FIRST_WIDE {
-            "00######"
-        } else {
-            "########"
-        };
-        let mut line = Vec::new(self.alloc);
-        for (part, text) in [
-            (Part::Reg, "reg="),
-            (Part::Name, name),
-            (Part::Val, " val="),
-            (Part::Value, value),
-            (Part::LineEnd, "\n"),
-        ] {
-            for byte in text.bytes() {
-                let wanted = match byte {
-                    b'#' => Wanted::Digit,
-                    _ => Wanted::Byte(byte),
-                };
-                line.push(Column { part, wanted })?;
-            }
+    // Adds names, with or without commas between them.
+    pub(super) fn lay_names(&mut self, names: &[u8]) -> Result<(), AllocError> {
+        for name in names.split(|byte| *byte == b',') {
+            self.names.extend_from_slice(name)?;
         }
-        self.lines.push(line)?;
         Ok(())
     }
 
-    fn column(&self, cell: usize, column: usize) -> Option<Column> {
-        self.lines.get(cell)?.get(column).copied()
+    // Where the table has no name, and behind a line's end, the byte 0 is wanted.
+    fn wanted(&self, cell: usize, column: usize) -> Wanted {
+        let byte = match column {
+            0..=3 => IN_FRONT.get(column),
+            4..=11 => self
+                .names
+                .get(cell.wrapping_mul(8).wrapping_add(column - 4)),
+            _ if cell < FIRST_WIDE => BEHIND_3D.get(column - 12),
+            _ => BEHIND_VIDEO.get(column - 12),
+        };
+        Wanted::from(byte.copied().unwrap_or(0))
     }
 
     // Those of the cells whose line has that byte in the column.
     fn alike(&self, line: &Line, byte: u8) -> Option<Range<usize>> {
-        let mut alike = (line.cells.start..line.cells.end).filter(|cell| {
-            self.column(*cell, line.column)
-                .is_some_and(|column| column.wanted.admits(byte))
-        });
+        let mut alike = (line.cells.start..line.cells.end).filter(|cell| self
+            .wanted(*cell, line.column)
+            .admits(byte));
         let lowest = alike.next()?;
         let highest = alike.next_back().unwrap_or(lowest);
         Some(lowest..highest.checked_add(1)?)
@@ -235,13 +243,11 @@ impl Registers {
         }
     }
 
-    fn part(&self, at: &At) -> Part {
+    fn part(at: &At) -> Part {
         match at {
             At::Key(_) => Part::Key,
             At::Count(_) => Part::Count,
-            At::Line(line) => self
-                .column(line.cells.start, line.column)
-                .map_or(Part::LineEnd, |column| column.part),
+            At::Line(line) => part_of_line(line.cells.start, line.column),
             At::Behind => Part::Behind,
         }
     }
@@ -255,13 +261,13 @@ impl Registers {
         let mut at = At::Key(0);
         for (place, byte) in text.iter().enumerate() {
             let Some(next) = self.take(&at, *byte, &mut state) else {
-                let part = self.part(&at);
+                let part = Registers::part(&at);
                 return Err(Stopped::NotAListing { place, part });
             };
             at = next;
         }
         let place = text.len();
-        match self.part(&at) {
+        match Registers::part(&at) {
             Part::Behind => {
                 state.lay(buffer);
                 Ok(place)

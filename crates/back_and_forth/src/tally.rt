@@ -1,11 +1,11 @@
 // What is counted and told: calls of the family at work, differences with a line for each of the first, calls by reason,
 // and where the second reader stopped in a text that is no listing.
 use super::answer::{Answer, Reason, Told};
-use super::page::BadPage;
 use super::second::{PARTS, Part};
 use std::alloc::AllocError;
 use std::collections::BTreeMap;
 use std::io;
+use std::io::Write;
 
 // How a text stops being a listing: it ends, or goes on with a byte that begins none.
 #[derive(Clone, Copy, PartialEq, Eq, PartialOrd, Ord)]
@@ -22,27 +22,41 @@ pub(super) enum Counted {
     Stopped(Part, Stop),
 }
 
-// The page's numbers: reasons from 0 on; from 32 on two for each part of a text.
-impl TryFrom<u32> for Counted {
-    type Error = BadPage;
+// What the page can ask for: what is counted over all families, the calls since the last family's line, the differences
+// so far, and by any other number nothing.
+#[derive(Clone, Copy)]
+enum Asked {
+    Counted(Counted),
+    Calls,
+    Differences,
+    Nothing,
+}
 
-    fn try_from(number: u32) -> Result<Counted, BadPage> {
+// The page's numbers: reasons from 0 on; from 32 on two for each part of a text.
+impl From<usize> for Asked {
+    fn from(number: usize) -> Asked {
         match number {
-            0 => Ok(Counted::Success),
-            1..=31 => Ok(Counted::Refused(Reason::from(number))),
+            0 => Asked::Counted(Counted::Success),
+            1..=31 => Asked::Counted(Counted::Refused(Reason::from(number as u32))),
+            60 => Asked::Calls,
+            61 => Asked::Differences,
             _ => {
-                let line = number as usize - 32;
-                let part = PARTS.get(line / 2).ok_or(BadPage::NoSuchCount)?;
+                let line = number - 32;
                 let stop = if line % 2 == 0 {
                     Stop::CutShort
                 } else {
                     Stop::AnotherByte
                 };
-                Ok(Counted::Stopped(*part, stop))
+                PARTS.get(line / 2).map_or(Asked::Nothing, |part| {
+                    Asked::Counted(Counted::Stopped(*part, stop))
+                })
             }
         }
     }
 }
+
+// The bytes of a title that are printed; behind a longer one comes its length, in at most four bytes.
+const MOST_TITLE: usize = 3068;
 
 #[derive(Drop)]
 pub(super) struct Tally {
@@ -64,12 +78,12 @@ impl Tally {
 
     pub(super) fn count(&mut self, what: Counted) -> Result<(), AllocError> {
         let counted = self.counts.entry(what)?.or_insert(0);
-        *counted = counted.saturating_add(1);
+        *counted = counted.wrapping_add(1);
         Ok(())
     }
 
     pub(super) fn count_call(&mut self, told: &Answer) -> Result<(), AllocError> {
-        self.calls = self.calls.saturating_add(1);
+        self.calls = self.calls.wrapping_add(1);
         match told {
             Ok(_) => self.count(Counted::Success),
             Err(refusal) => self.count(Counted::Refused(refusal.reason)),
@@ -78,7 +92,7 @@ impl Tally {
 
     // The first five differences are told: in the family whose line comes next, the call, and the two answers.
     pub(super) fn note_difference(&mut self, first: Answer, expected: Answer) -> io::Result<()> {
-        self.differences = self.differences.saturating_add(1);
+        self.differences = self.differences.wrapping_add(1);
         if self.differences > 5 {
             return Ok(());
         }
@@ -88,19 +102,36 @@ impl Tally {
         println!(self.rt; "difference: call={calls} first={first} expected={expected}")
     }
 
-    pub(super) fn end_family(&mut self, title: &str) -> io::Result<()> {
+    fn print_title(&self, title: &[u8]) -> io::Result<()> {
+        let printed = title.len().min(MOST_TITLE);
+        let more = (title.len() - printed).min(4);
+        let mut out = self.rt.stdout();
+        out.write_all(&title[..printed])?;
+        out.write_all(&title.len().to_le_bytes()[..more])
+    }
+
+    pub(super) fn end_family(&mut self, title: &[u8]) -> io::Result<()> {
+        self.print_title(title)?;
         let calls = self.calls;
         let differences = self.differences;
         self.calls = 0;
-        println!(self.rt; "{title} calls={calls} differences so far={differences}")
+        println!(self.rt; " calls={calls} differences so far={differences}")
+    }
+
+    fn asked(&self, asked: Asked) -> u32 {
+        match asked {
+            Asked::Counted(what) => self.counts.get(&what).copied().unwrap_or(0),
+            Asked::Calls => self.calls,
+            Asked::Differences => self.differences,
+            Asked::Nothing => 0,
+        }
     }
 
     // So many counts from the first on, under the title.
-    pub(super) fn tell_counts(&self, first: u32, n: usize, title: &str) -> io::Result<()> {
-        print!(self.rt; "{title}")?;
-        for number in (first..u32::MAX).take(n) {
-            let counted = self.counts.get(&Counted::try_from(number)?).copied();
-            print!(self.rt; " {}", counted.unwrap_or(0))?;
+    pub(super) fn tell_counts(&self, first: usize, n: usize, title: &[u8]) -> io::Result<()> {
+        self.print_title(title)?;
+        for number in (first..usize::MAX).take(n) {
+            print!(self.rt; " {}", self.asked(Asked::from(number)))?;
         }
         println!(self.rt; "")
     }
