@@ -84,6 +84,7 @@ fn count_roles(grants: &[u8]) -> Option<[usize; 4]>
 
 // The rules of the list, and where the parts of what is kept of it begin; false, and nothing is begun, where the list breaks its rules. It and
 // `place` are two functions, so that each is small enough to be compiled into every call that keeps grants.
+// Kept: a bool beside bounds that are lent, since with the bounds in an Option the size and the writer need an instruction more a grant.
 #[tactic(auto, unfolding(crate::specs::Keeping::begun_by, crate::specs::Keeping::beginnings))]
 pub fn begin(grants: &[u8], bounds: &mut Bounds) -> bool
     requires none { bounds.old ≡ kept.no_bounds }
@@ -95,10 +96,7 @@ pub fn begin(grants: &[u8], bounds: &mut Bounds) -> bool
     };
     let second = counts[1];
     let third = second + counts[2];
-    bounds[2] = second;
-    bounds[3] = third;
-    bounds[6] = second;
-    bounds[7] = third;
+    *bounds = [0, 0, second, third, 0, 0, second, third];
     true
 }
 
