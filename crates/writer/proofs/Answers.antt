@@ -1,10 +1,10 @@
 -- The size's answer, by what its tests came to; and what success tells of a state.
 -- Assumes nothing.
 use Rattle.std.specs.Prelude.{Option, Some, None, Err}
-use mathlib.Core.Path.{◌≡◌, refl, sym, ap, ◌∙◌}
-use mathlib.Core.Bool.{Bool, true, false, cond}
+use mathlib.Core.Path.{◌≡◌, sym, ◌∙◌}
+use mathlib.Core.Bool.{Bool, true, false}
 use mathlib.Core.List.{List}
-use Prim.Native.Nat.{ℕ, ◌≤◌, ◌<◌, ◌/◌}
+use Prim.Native.Nat.{ℕ, ◌≤◌, ◌<◌}
 use native.Mathlib.Omega.{arith}
 use borrow.Author.Tests.{ltb-true, le-leb, lt-leb}
 use lib.Dec.{T, eqb}
@@ -19,9 +19,9 @@ use Rattle.meaning.specs.declared.Memory.TheVariants.{Either, Only}
 use Rattle.meaning.specs.Grants.{Terms, grants_of, grants_fine, granted, terms_of}
 use Rattle.meaning.specs.State.{marked, well_formed}
 use Rattle.meaning.specs.Pair.{target_cell, pair_fine}
-use Rattle.meaning.specs.Answers.{Answer, bad_state, bad_grants, not_writable, no_room, success, answer, answer_in, number}
+use Rattle.meaning.specs.Answers.{bad_state, bad_grants, not_writable, no_room, success, answer, answer_in, number}
 use Rattle.meaning.specs.Reasons.{CellFine}
-use Rattle.meaning.specs.Writer.{written, size_of, need_for, lowest_bad, with_pair, except_at, size_answer, write_answer}
+use Rattle.meaning.specs.Writer.{written, size_of, need_for, lowest_bad, with_pair, size_answer, write_answer}
 use Rattle.meaning.proofs.Refusals.{refused}
 use Rattle.meaning.proofs.States.{Sound}
 use Rattle.meaning.proofs.Writing.{need_is_length}

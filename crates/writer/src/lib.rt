@@ -17,12 +17,7 @@ use needs::Need;
 
 // The lowest cell that may not be written, if there is one: what the search found, or cell 1 for a pair that is not fine, where cell 0 may be
 // written. `near` says that no kept grant is in memory 1: an address that the search has let pass is then granted in memory 0.
-fn with_pair(
-    found: Option<Cell>,
-    state: &[u8],
-    part: &RoleGrants<'_>,
-    near: bool,
-) -> Option<Cell>
+fn with_pair(found: Option<Cell>, state: &[u8], part: &RoleGrants<'_>, near: bool) -> Option<Cell>
     requires whole { length (words_of state.now) ≡ state_words }
     requires near { near ≡ true → passes_target found ≡ true → KnownBy part.now (words_of state.now) }
     ensures lowest { result ≡ with_pair (fine_by part.now (pair_of (words_of state.now))) found }

@@ -1,10 +1,8 @@
 -- Each test by what it came to; with no refusal, the words that are needed.
 -- Assumes nothing.
-use mathlib.Core.Path.{◌≡◌, refl, sym, ap, ◌∙◌}
+use mathlib.Core.Path.{◌≡◌, refl, sym, ◌∙◌}
 use mathlib.Core.Bool.{true}
-use Prim.Native.Nat.{ℕ}
-use native.Mathlib.Omega.{arith}
-use lib.ListN.{length, get_or}
+use lib.ListN.{length}
 use mir.Facts.{eqb_yes}
 use Rattle.laws.proofs.Tests.{holds_of}
 use Rattle.meaning.specs.Words.{words_of}
@@ -16,7 +14,7 @@ use Rattle.meaning.specs.Writer.{with_pair, lowest_bad}
 use Rattle.grants.specs.Kept.{Names, Bounded}
 use Rattle.meaning.proofs.States.{formed_iff}
 use Rattle.keeping.proofs.Keeping.{begun_by_lem, names_after, kept_after, near_after}
-use Rattle.writer.proofs.Answers.{passed, paired, refused_state, refused_grants, refused_cell, done}
+use Rattle.writer.proofs.Answers.{passed, paired, refused_cell, done}
 use Rattle.writer.proofs.measure.Goals as goal
 use Rattle.writer.proofs.measure.Goals.{After-lowest_bad-found, After-place, After-with_pair, Else-not-begin, Else-not-well_formed}
 
@@ -52,8 +50,6 @@ low c names is =
     paired (words_of c.args.grants.now) (words_of c.args.state.now) (holds_of (sym c.if-not-begin.ensures.fine)) names is c.part_of-part.ensures.role
     c.with_pair.ensures.lowest
 
-
-
 pub place-requires-clause-begun : goal.place-requires-clause-begun
 place-requires-clause-begun c = c.begin.ensures.begun ∙ begun_by_lem _ (fine (goal.at.place-requires-clause-begun c).Else-not-begin)
 
@@ -68,8 +64,8 @@ with_pair-requires-clause-near c =
     let at = goal.at.with_pair-requires-clause-near c in
     let k = c.place.ensures in
     λ t l. passed (words_of c.args.grants.now) (words_of c.args.state.now) (named at.After-place).0
-        (near_after _ _ _ _ (refl, (refl, refl)) (sym c.if-not-begin.ensures.fine) (k.starts, (k.lasts, (k.numbers, k.bounds))) (eqb_yes (holds_of t)))
-        (found at.After-lowest_bad-found) c.part_of-part.ensures.role l
+    (near_after _ _ _ _ (refl, (refl, refl)) (sym c.if-not-begin.ensures.fine) (k.starts, (k.lasts, (k.numbers, k.bounds))) (eqb_yes (holds_of t)))
+    (found at.After-lowest_bad-found) c.part_of-part.ensures.role l
 
 pub returns-in-Some-clause-answer : goal.returns-in-Some-clause-answer
 returns-in-Some-clause-answer c =
