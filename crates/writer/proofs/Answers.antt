@@ -12,14 +12,13 @@ use mir.Facts.{eqb_yes}
 use Rattle.laws.specs.Lists.{every, from}
 use Rattle.laws.proofs.Lists.{every_from}
 use Rattle.meaning.specs.declared.Cell.{Cell}
-use Rattle.meaning.specs.declared.Reason.{Reason}
 use Rattle.meaning.specs.declared.Refusal.{Refusal}
 use Rattle.meaning.specs.Registers.{cells, first_video, cell, target_group, stage, sample, overlay, scaler, sections, register_among, register_in, register_at}
 use Rattle.meaning.specs.declared.Memory.TheVariants.{Either, Only}
 use Rattle.meaning.specs.Grants.{Terms, grants_of, grants_fine, granted, terms_of}
 use Rattle.meaning.specs.State.{marked, well_formed}
 use Rattle.meaning.specs.Pair.{target_cell, pair_fine}
-use Rattle.meaning.specs.Answers.{bad_state, bad_grants, not_writable, no_room, success, answer, answer_in, number}
+use Rattle.meaning.specs.Answers.{bad_state, bad_grants, not_writable, no_room, success, answer, answer_in}
 use Rattle.meaning.specs.Reasons.{CellFine}
 use Rattle.meaning.specs.Writer.{written, size_of, need_for, lowest_bad, with_pair, size_answer, write_answer}
 use Rattle.meaning.proofs.Refusals.{refused}
