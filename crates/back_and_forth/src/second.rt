@@ -153,6 +153,16 @@ impl At {
         }
         Some(At::Count(Some(grown)))
     }
+
+    // The part in which a reading that takes no more ends.
+    fn part(&self) -> Part {
+        match self {
+            At::Key(_) => Part::Key,
+            At::Count(_) => Part::Count,
+            At::Line(line) => part_of_line(line.cells.start, line.column),
+            At::Behind => Part::Behind,
+        }
+    }
 }
 
 // What stands in every line in front of the cell's eight bytes, and behind them: a value has eight digits, of which that
@@ -243,15 +253,6 @@ impl Registers {
         }
     }
 
-    fn part(at: &At) -> Part {
-        match at {
-            At::Key(_) => Part::Key,
-            At::Count(_) => Part::Count,
-            At::Line(line) => part_of_line(line.cells.start, line.column),
-            At::Behind => Part::Behind,
-        }
-    }
-
     // Reads the text into the buffer, if it is a listing.
     pub(super) fn read(&self, text: &[u8], buffer: &mut [u8]) -> Result<usize, Stopped> {
         if buffer.len() / 4 != STATE_WORDS {
@@ -261,13 +262,13 @@ impl Registers {
         let mut at = At::Key(0);
         for (place, byte) in text.iter().enumerate() {
             let Some(next) = self.take(&at, *byte, &mut state) else {
-                let part = Registers::part(&at);
+                let part = at.part();
                 return Err(Stopped::NotAListing { place, part });
             };
             at = next;
         }
         let place = text.len();
-        match Registers::part(&at) {
+        match at.part() {
             Part::Behind => {
                 state.lay(buffer);
                 Ok(place)

@@ -32,7 +32,7 @@ enum Asked {
     Nothing,
 }
 
-// The page's numbers: reasons from 0 on; from 32 on two for each part of a text.
+// The page's numbers: reasons from 0 on; from 32 on two for each part of a text; 60 and 61.
 impl From<usize> for Asked {
     fn from(number: usize) -> Asked {
         match number {
