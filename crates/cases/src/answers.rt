@@ -80,32 +80,59 @@ pub(super) fn answer_of(reason: u32, place: usize) -> Result<Answer, UnknownReas
     Ok(Err(Refusal::at(Reason::try_from(reason)?, place)))
 }
 
-// An answer as it is printed: by its two numbers.
-#[derive(Clone, Copy)]
-pub(super) struct Numbers(pub(super) Answer);
+// An answer by its two numbers, as the page states it and as it is printed; reason 0 is success. A page can state any
+// numbers.
+#[derive(Clone, Copy, PartialEq, Eq)]
+pub(super) struct Numbers {
+    reason: u32,
+    place: usize,
+}
+
+impl Numbers {
+    // As one number, which is the place times 256 and the reason: the bits above the reason's eight are the place's.
+    pub(super) fn stated(reason: u32, place: usize) -> Numbers {
+        Numbers {
+            reason: reason % 256,
+            place: place | (reason / 256) as usize,
+        }
+    }
+}
+
+impl From<Answer> for Numbers {
+    fn from(answer: Answer) -> Numbers {
+        match answer {
+            Ok(place) => Numbers { reason: 0, place },
+            Err(Refusal { reason, place }) => Numbers {
+                reason: reason as u32,
+                place,
+            },
+        }
+    }
+}
 
 impl fmt::Display for Numbers {
     fn fmt<W: fmt::Write>(&self, f: &mut fmt::Formatter<W>) -> fmt::Result {
-        match self.0 {
-            Ok(place) => write!(f, "0 at {place}"),
-            Err(Refusal { reason, place }) => write!(f, "{} at {place}", reason as u32),
-        }
+        let Numbers { reason, place } = *self;
+        write!(f, "{reason} at {place}")
     }
 }
 
 // What a case expects.
 #[derive(Clone, Copy)]
 pub(super) enum Expected {
-    Just(Answer),
+    Just(Numbers),
     // Any answer but this one.
-    Not(Answer),
+    Not(Numbers),
+    Any,
 }
 
 impl Expected {
     pub(super) fn allows(self, told: Answer) -> bool {
+        let told = Numbers::from(told);
         match self {
             Expected::Just(stated) => told == stated,
             Expected::Not(other) => told != other,
+            Expected::Any => true,
         }
     }
 }
@@ -113,9 +140,9 @@ impl Expected {
 impl fmt::Display for Expected {
     fn fmt<W: fmt::Write>(&self, f: &mut fmt::Formatter<W>) -> fmt::Result {
         match self {
-            Expected::Just(stated) => Numbers(*stated).fmt(f),
+            Expected::Just(stated) => stated.fmt(f),
             // Kept: the output has the highest reason at the highest place here, which no answer has.
-            Expected::Not(_) => write!(f, "255 at 72057594037927935"),
+            _ => write!(f, "255 at 72057594037927935"),
         }
     }
 }

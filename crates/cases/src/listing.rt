@@ -2,6 +2,7 @@
 // how long the text is, is told from the marks alone.
 
 use super::answers::{Answer, Reason, Refusal};
+use super::lists::{List, Word};
 use super::state::CELLS;
 use std::alloc::{AllocError, Global};
 
@@ -24,20 +25,26 @@ static NAMES: [&str; CELLS] = [
 // The cells below this one have names of eight bytes, type, sub-type and sub-address; the others of four.
 const FIRST_VIDEO: usize = 84;
 
+fn number(word: &Word) -> u32 {
+    u32::from_le_bytes(*word)
+}
+
+fn is_marked(mark: &Word) -> bool {
+    number(mark) == 1
+}
+
 // A state that is well-formed.
 #[derive(Clone, Copy)]
 struct Cells<'a> {
-    values: &'a [u32],
-    marks: &'a [u32],
+    values: &'a [Word],
+    marks: &'a [Word],
 }
 
 impl<'a> Cells<'a> {
-    fn of(state: &'a [u32]) -> Option<Cells<'a>> {
-        let (values, marks) = state.split_at_checked(CELLS)?;
-        let fine = values
-            .iter()
-            .zip(marks)
-            .all(|(value, mark)| *mark == 1 || *mark == 0 && *value == 0);
+    fn of(state: &'a List) -> Option<Cells<'a>> {
+        let (values, marks) = state.words().split_at_checked(CELLS)?;
+        let fine = values.iter().zip(marks).all(|(value, mark)| is_marked(mark)
+            || number(mark) | number(value) == 0);
         if fine && marks.len() == CELLS {
             Some(Cells { values, marks })
         } else {
@@ -46,7 +53,7 @@ impl<'a> Cells<'a> {
     }
 
     fn count(&self) -> usize {
-        self.marks.iter().filter(|mark| **mark == 1).count()
+        self.marks.iter().filter(|mark| is_marked(mark)).count()
     }
 
     // How many bytes the listing has.
@@ -59,7 +66,7 @@ impl<'a> Cells<'a> {
         self.marks
             .iter()
             .enumerate()
-            .filter(|(_, mark)| **mark == 1)
+            .filter(|(_, mark)| is_marked(mark))
             .map(|(cell, _)| if cell < FIRST_VIDEO { 26 } else { 22 })
             .fold(head, usize::wrapping_add)
     }
@@ -67,7 +74,8 @@ impl<'a> Cells<'a> {
     fn text(&self, alloc: Global) -> Result<String, AllocError> {
         let mut text = format!(in alloc; "cells={}\n", self.count())?;
         for ((name, value), mark) in NAMES.iter().zip(self.values).zip(self.marks) {
-            if *mark == 1 {
+            if is_marked(mark) {
+                let value = number(value);
                 writeln!(text, "reg={name} val={value:08x}")?;
             }
         }
@@ -79,7 +87,7 @@ impl<'a> Cells<'a> {
 // refusal.
 pub(super) fn list(
     alloc: Global,
-    state: &[u32],
+    state: &List,
     room: usize,
 ) -> Result<(Answer, String), AllocError> {
     let Some(cells) = Cells::of(state) else {

@@ -11,6 +11,7 @@ mod calls;
 mod cases;
 mod checks;
 mod listing;
+mod lists;
 mod page;
 mod pairs;
 mod state;
@@ -25,8 +26,9 @@ const MOST_BYTES: u64 = 65536;
 
 fn main(rt: HostRuntime) -> io::Result<()> {
     let alloc = rt.alloc();
-    let page = io::read_to_string(alloc, rt.stdin().take(MOST_BYTES))?;
+    let mut page = Vec::new(alloc);
+    rt.stdin().take(MOST_BYTES).read_to_end(&mut page)?;
     let mut run = Run::new(alloc, rt);
-    run.page(page.as_str())?;
+    run.page(&page)?;
     run.tell_all()
 }

@@ -19,13 +19,15 @@
 //       A state, with its listing on the lines below, up to an empty one: in every room.
 //
 // A number of six digits or more is hex, a shorter one decimal. Other lines say nothing.
+//
+// Any bytes are a page: what is no digit ends a number, a number that is not there is 0, and of one that is too long for a
+// word the lowest bits are left.
 
-use super::answers::{Answer, Expected, Reason, Refusal, answer_of};
+use super::answers::{Expected, Numbers};
+use super::lists::List;
 use super::state::{STATE_WORDS, State};
-use std::alloc::Global;
-use std::io;
 
-// What a line with cases is, by its first character.
+// What a line with cases is, by its first byte.
 #[derive(Clone, Copy)]
 pub(super) enum Kind {
     Written,
@@ -38,95 +40,128 @@ pub(super) enum Kind {
 }
 
 impl Kind {
-    pub(super) fn of(line: &str) -> Option<Kind> {
-        match line.chars().next()? {
-            '0'..='9' => Some(Kind::Written),
-            '@' => Some(Kind::Entered),
-            '~' => Some(Kind::Sweep),
-            '+' => Some(Kind::Packet),
-            '*' => Some(Kind::Lengths),
-            '%' => Some(Kind::Pairs),
-            '>' => Some(Kind::Listing),
+    pub(super) fn of(byte: u8) -> Option<Kind> {
+        match byte {
+            b'0'..=b'9' => Some(Kind::Written),
+            b'@' => Some(Kind::Entered),
+            b'~' => Some(Kind::Sweep),
+            b'+' => Some(Kind::Packet),
+            b'*' => Some(Kind::Lengths),
+            b'%' => Some(Kind::Pairs),
+            b'>' => Some(Kind::Listing),
             _ => None,
         }
     }
 }
 
-fn malformed() -> io::Error {
-    io::Error::new(
-        io::ErrorKind::InvalidData,
-        "a line of the page does not have the numbers that its kind has",
-    )
+// Packets that need no grant, one after the other, and where each starts.
+#[derive(Clone, Copy)]
+pub(super) struct Pool {
+    pub(super) words: List,
+    pub(super) starts: List,
+}
+
+impl Pool {
+    pub(super) fn new() -> Pool {
+        Pool {
+            words: List::new(),
+            starts: List::new(),
+        }
+    }
+
+    pub(super) fn add(&mut self, packet: &List) {
+        self.starts.push(self.words.len());
+        self.words.push_all(packet);
+    }
+
+    // Adds that packet to a batch: its header, and as many words as this counts. A packet that there is not is the first.
+    pub(super) fn push_packet(&self, packet: usize, batch: &mut List) {
+        let start = self.starts.get(packet) as usize;
+        let more = (self.words.get(start) >> 16) as usize;
+        for i in start..=start.wrapping_add(more) {
+            batch.push(self.words.get(i));
+        }
+    }
 }
 
 // A line with cases, in its parts.
-#[derive(Drop)]
+#[derive(Clone, Copy)]
 pub(super) struct Line {
     // The first part: what they are is said by the line's kind.
-    numbers: Vec<u32>,
+    numbers: List,
     // What a case stores, each cell and its value; or a field's listed codes, from a low one to a high one.
-    pub(super) listed: Vec<u32>,
-    pub(super) grants: Vec<u32>,
-    pub(super) batch: Vec<u32>,
+    pub(super) listed: List,
+    pub(super) grants: List,
+    pub(super) batch: List,
     // The state that its cases start from: empty but for the last part's cells.
     pub(super) entry: State,
 }
 
 impl Line {
-    pub(super) fn parse(alloc: Global, text: &str) -> io::Result<Line> {
-        let mut parts = text.split('|');
-        Ok(Line {
-            numbers: numbers_of(alloc, parts.next())?,
-            listed: numbers_of(alloc, parts.next())?,
-            grants: numbers_of(alloc, parts.next())?,
-            batch: numbers_of(alloc, parts.next())?,
-            entry: State::empty().with(&numbers_of(alloc, parts.next())?),
-        })
+    // Kept: the numbers of a sixth part go into the pool, as words, and those of a seventh, as starts.
+    pub(super) fn parse(text: &[u8], pool: &mut Pool) -> Line {
+        let mut parts = text.split(|byte| *byte == b'|');
+        let mut numbers = List::new();
+        let mut listed = List::new();
+        let mut grants = List::new();
+        let mut batch = List::new();
+        let mut cells = List::new();
+        push_numbers(&mut numbers, parts.next());
+        push_numbers(&mut listed, parts.next());
+        push_numbers(&mut grants, parts.next());
+        push_numbers(&mut batch, parts.next());
+        push_numbers(&mut cells, parts.next());
+        push_numbers(&mut pool.words, parts.next());
+        push_numbers(&mut pool.starts, parts.next());
+        Line {
+            numbers,
+            listed,
+            grants,
+            batch,
+            entry: State::empty().with(&cells),
+        }
     }
 
     // The first N of its numbers.
-    pub(super) fn first<const N: usize>(&self) -> io::Result<[u32; N]> {
-        self.numbers
-            .first_chunk::<N>()
-            .copied()
-            .ok_or_else(malformed)
+    pub(super) fn first<const N: usize>(&self) -> [u32; N] {
+        self.numbers.first::<N>()
+    }
+
+    // What it states of a case that stands behind so many words. Reasons 1 and 2 stand at 0.
+    pub(super) fn stated_behind(&self, front: u32) -> Numbers {
+        let [reason, place] = self.first::<2>();
+        match reason {
+            1 | 2 => Numbers::stated(reason, 0),
+            _ => Numbers::stated(reason, (place as usize).wrapping_add(front as usize)),
+        }
     }
 }
 
-fn is_digit(c: char) -> bool {
-    matches!(c, '0'..='9' | 'a'..='f')
+fn digit(byte: u8) -> Option<u32> {
+    match byte {
+        b'0'..=b'9' => Some(u32::from(byte - b'0')),
+        b'a'..=b'f' => Some(u32::from(byte - b'a') + 10),
+        _ => None,
+    }
 }
 
-fn number_of(digits: &str) -> io::Result<u32> {
+// Kept: from_str_radix has no number for letters in a decimal one, which count for 10 to 15, nor for more digits than a
+// word has.
+fn number_of(digits: &[u8]) -> u32 {
     let base = if digits.len() < 6 { 10 } else { 16 };
-    u32::from_str_radix(digits, base).map_err(|_| malformed())
-}
-
-fn numbers_of(alloc: Global, part: Option<&str>) -> io::Result<Vec<u32>> {
-    part.unwrap_or("")
-        .split(|c| !is_digit(c))
-        .filter(|digits| !digits.is_empty())
-        .map(number_of)
-        .try_collect(alloc)
-}
-
-// What a line states of a case that stands behind so many words. Reasons 1 and 2 stand at 0.
-#[derive(Clone, Copy)]
-pub(super) struct Stated(Answer);
-
-impl Stated {
-    pub(super) fn on(line: &Line) -> io::Result<Stated> {
-        let [reason, place] = line.first::<2>()?;
-        Ok(Stated(answer_of(reason, place as usize)?))
+    let mut number = 0u32;
+    for byte in digits {
+        number = number
+            .wrapping_mul(base)
+            .wrapping_add(digit(*byte).unwrap_or(0));
     }
+    number
+}
 
-    pub(super) fn behind(&self, front: usize) -> Answer {
-        match self.0 {
-            Ok(place) => Ok(place.wrapping_add(front)),
-            Err(Refusal { reason, place }) => Err(match reason {
-                Reason::BadState | Reason::BadGrants => Refusal::at(reason, 0),
-                _ => Refusal::at(reason, place.wrapping_add(front)),
-            }),
+fn push_numbers(list: &mut List, part: Option<&[u8]>) {
+    for digits in part.unwrap_or(&[]).split(|byte| digit(*byte).is_none()) {
+        if !digits.is_empty() {
+            list.push(number_of(digits));
         }
     }
 }
@@ -174,23 +209,20 @@ const UNSTATED: u32 = 99;
 
 const ONE_BIT: u32 = 99;
 
-fn answer_if_stated(reason: u32, place: u32) -> io::Result<Option<Answer>> {
-    if reason == UNSTATED {
-        return Ok(None);
-    }
-    Ok(Some(answer_of(reason, place as usize)?))
+fn answer_if_stated(reason: u32, place: u32) -> Option<Numbers> {
+    (reason != UNSTATED).then_some(Numbers::stated(reason, place as usize))
 }
 
-// The answer that is stated; else any but the other one, which then has to be.
-fn expected(stated: Option<Answer>, other: Option<Answer>) -> io::Result<Expected> {
+// The answer that is stated; else any but the other one.
+fn expected(stated: Option<Numbers>, other: Option<Numbers>) -> Expected {
     stated
         .map(Expected::Just)
         .or(other.map(Expected::Not))
-        .ok_or_else(malformed)
+        .unwrap_or(Expected::Any)
 }
 
 impl Sweep {
-    pub(super) fn on(line: &Line) -> io::Result<Sweep> {
+    pub(super) fn on(line: &Line) -> Sweep {
         let [
             times,
             at,
@@ -200,83 +232,102 @@ impl Sweep {
             unlisted_place,
             listed_reason,
             listed_place,
-        ] = line.first::<8>()?;
+        ] = line.first::<8>();
         let change = if shift == ONE_BIT {
             Change::Bit
         } else {
             Change::Field(shift)
         };
-        let unlisted = answer_if_stated(unlisted_reason, unlisted_place)?;
-        let listed = answer_if_stated(listed_reason, listed_place)?;
-        Ok(Sweep {
+        let unlisted = answer_if_stated(unlisted_reason, unlisted_place);
+        let listed = answer_if_stated(listed_reason, listed_place);
+        Sweep {
             times,
             at: at as usize,
             change,
             codes: change.codes(width),
-            unlisted: expected(unlisted, listed)?,
-            listed: expected(listed, unlisted)?,
-        })
+            unlisted: expected(unlisted, listed),
+            listed: expected(listed, unlisted),
+        }
     }
 
-    // What is expected of a code, by the line's ranges.
-    pub(super) fn expected(&self, code: u32, ranges: &[u32]) -> Expected {
-        let (ranges, _) = ranges.as_chunks::<2>();
-        if ranges
-            .iter()
-            .any(|[low, high]| *low <= code && code <= *high)
-        {
-            self.listed
-        } else {
-            self.unlisted
+    // What is expected of a code, by the line's ranges. A last one that has no high code ends at 0.
+    pub(super) fn expected(&self, code: u32, ranges: &List) -> Expected {
+        for i in (0..ranges.len() as usize).step_by(2) {
+            if ranges.get(i) <= code && code <= ranges.get(i.wrapping_add(1)) {
+                return self.listed;
+            }
+        }
+        self.unlisted
+    }
+}
+
+// Which list has every length. Of other lists than these no call is lent any.
+#[derive(Clone, Copy)]
+pub(super) enum Cut {
+    State,
+    Grants,
+    Batch,
+    PoolWords,
+    PoolStarts,
+    Other,
+}
+
+impl From<u32> for Cut {
+    fn from(number: u32) -> Cut {
+        match number {
+            1 => Cut::State,
+            6 => Cut::Grants,
+            7 => Cut::Batch,
+            9 => Cut::PoolWords,
+            10 => Cut::PoolStarts,
+            _ => Cut::Other,
         }
     }
 }
 
-// Which list has every length.
-#[derive(Clone, Copy)]
-pub(super) enum List {
-    State,
-    Grants,
-}
-
-impl List {
+impl Cut {
     // A state has 202 words; a list of grants whole grants, up to 64.
-    fn allows(self, length: usize) -> bool {
+    fn allows(self, length: u32) -> bool {
         match self {
-            List::State => length == STATE_WORDS,
-            List::Grants => length % 5 == 0 && length <= 320,
+            Cut::State => length == STATE_WORDS,
+            _ => length % 5 == 0 && length <= 320,
         }
     }
 }
 
 #[derive(Clone, Copy)]
 pub(super) struct Lengths {
-    pub(super) list: List,
-    wrong: Answer,
+    pub(super) cut: Cut,
+    reason: u32,
     pub(super) most: u32,
 }
 
 impl Lengths {
-    pub(super) fn on(line: &Line) -> io::Result<Lengths> {
-        let [list, reason, most] = line.first::<3>()?;
-        let list = match list {
-            1 => List::State,
-            6 => List::Grants,
-            _ => return Err(malformed()),
-        };
-        Ok(Lengths {
-            list,
-            wrong: answer_of(reason, 0)?,
+    pub(super) fn on(line: &Line) -> Lengths {
+        let [list, reason, most] = line.first::<3>();
+        Lengths {
+            cut: Cut::from(list),
+            reason,
             most,
-        })
+        }
     }
 
     // The answer on an empty batch, with so many words.
-    pub(super) fn answer(&self, length: usize) -> Answer {
-        if self.list.allows(length) {
-            Ok(0)
+    pub(super) fn answer(&self, length: u32) -> Numbers {
+        let reason = if self.cut.allows(length) {
+            0
         } else {
-            self.wrong
-        }
+            self.reason
+        };
+        Numbers::stated(reason, 0)
     }
+}
+
+// The listing that stands at the front of these lines: up to an empty one, or to the end.
+pub(super) fn listing_in(below: &[u8]) -> &[u8] {
+    let end = below
+        .windows(2)
+        .position(|bytes| bytes == b"\n\n".as_slice())
+        .map_or(below.len(), |i| i.wrapping_add(1));
+    below.get(..end).unwrap_or(below)
 }

@@ -3,9 +3,10 @@
 // to 3; each address is granted in neither memory, in one or in both; and two words write one of the two addresses, a
 // location of 0, 1 or 2, what cell 1 or cell 2 had, or another register.
 
-use super::answers::{Answer, Reason, Refusal};
+use super::answers::{Answer, Numbers, Reason, Refusal};
 use super::calls::Lists;
 use super::checks::Checker;
+use super::lists::List;
 use super::state::State;
 use std::alloc::{AllocError, Global};
 use std::io;
@@ -213,19 +214,19 @@ impl Case {
         Ok(END)
     }
 
-    fn check(&self, alloc: Global, checker: &mut Checker, more: bool) -> io::Result<()> {
+    fn check(&self, checker: &mut Checker, more: bool) -> io::Result<()> {
         let header = if more { 0x0004043c } else { 0x0003043c };
         let [first, second] = self.writes;
-        let batch = [header, 0x00010000, first.word(), second.word()];
-        let grants: Vec<u32> = self
-            .granted
-            .iter()
-            .flat_map(|grant| grant.words())
-            .collect(alloc)?;
+        let mut batch = List::new();
+        batch.push_words(&[header, 0x00010000, first.word(), second.word()]);
+        let mut grants = List::new();
+        for grant in &self.granted {
+            grants.push_words(&grant.words());
+        }
         let lists = Lists {
             batch: &batch,
             grants: &grants,
-            state: self.state.words(),
+            state: &self.state,
         };
         let answer = self.answer(more);
         let left = if answer.is_ok() {
@@ -233,7 +234,7 @@ impl Case {
         } else {
             self.state
         };
-        checker.check_stored(lists, answer, left.words())
+        checker.check_stored(lists, Numbers::from(answer), &left)
     }
 }
 
@@ -242,9 +243,9 @@ pub(super) fn go_through(alloc: Global, checker: &mut Checker, cases: u32) -> io
     for number in 0..cases {
         checker.tally.begin_case(number);
         let case = Case::numbered(alloc, number)?;
-        case.check(alloc, checker, false)?;
+        case.check(checker, false)?;
         if number % 7 == 0 {
-            case.check(alloc, checker, true)?;
+            case.check(checker, true)?;
         }
     }
     Ok(())

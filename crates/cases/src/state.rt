@@ -1,58 +1,61 @@
 // A state as the rules have it: a value for each cell, and behind the values a mark for each.
 
+use super::lists::List;
+
 pub(super) const CELLS: usize = 101;
 
-pub(super) const STATE_WORDS: usize = 2 * CELLS;
+pub(super) const STATE_WORDS: u32 = 202;
 
-#[derive(Clone, Copy)]
+#[derive(Clone, Copy, PartialEq, Eq)]
 pub(super) struct State {
-    words: [u32; STATE_WORDS],
+    list: List,
 }
 
 impl State {
     // No cell is marked.
     pub(super) fn empty() -> State {
-        State {
-            words: [0; STATE_WORDS],
-        }
+        let mut list = List::new();
+        list.cut(STATE_WORDS);
+        State { list }
     }
 
-    // Every cell is marked, and has a value of its own.
-    pub(super) fn full() -> State {
-        let mut state = State::empty();
+    // The state with every cell marked, and with a value of its own.
+    pub(super) fn filled(mut self) -> State {
         for (cell, number) in (0..CELLS).zip(0u32..) {
-            state.store(cell, number.wrapping_mul(0x01234567));
-        }
-        state
-    }
-
-    // Nothing happens where there is no such cell.
-    pub(super) fn store(&mut self, cell: usize, value: u32) {
-        if cell < CELLS {
-            self.words[cell] = value;
-            self.words[CELLS + cell] = 1;
-        }
-    }
-
-    // The state with more stored: each cell's number, and behind it its value.
-    pub(super) fn with(mut self, cells: &[u32]) -> State {
-        let (pairs, _) = cells.as_chunks::<2>();
-        for [cell, value] in pairs {
-            self.store(*cell as usize, *value);
+            self.store(cell, number.wrapping_mul(0x01234567));
         }
         self
     }
 
-    pub(super) fn words(&self) -> &[u32] {
-        &self.words
+    // Kept: a number that is no cell's stores in the room all the same, where its value and its mark would stand.
+    pub(super) fn store(&mut self, cell: usize, value: u32) {
+        self.list.put(cell, value);
+        self.list.put(cell.wrapping_add(CELLS), 1);
+    }
+
+    // The state with more stored: each cell's number, and behind it its value.
+    pub(super) fn with(mut self, cells: &List) -> State {
+        for i in (0..cells.len() as usize).step_by(2) {
+            self.store(cells.get(i) as usize, cells.get(i.wrapping_add(1)));
+        }
+        self
+    }
+
+    pub(super) fn cut(&mut self, length: u32) {
+        self.list.cut(length);
+    }
+
+    pub(super) fn list(&self) -> &List {
+        &self.list
+    }
+
+    pub(super) fn lent_mut(&mut self, more: usize) -> &mut [u8] {
+        self.list.lent_mut(more)
     }
 
     // The cell's value, if it is marked.
     pub(super) fn get(&self, cell: usize) -> Option<u32> {
-        if cell < CELLS && self.words[CELLS + cell] == 1 {
-            Some(self.words[cell])
-        } else {
-            None
-        }
+        let is_marked = self.list.get(cell.wrapping_add(CELLS)) == 1;
+        is_marked.then_some(self.list.get(cell))
     }
 }

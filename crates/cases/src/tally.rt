@@ -6,18 +6,18 @@ use std::alloc::Global;
 use std::io;
 
 // A family's first five differences are told.
-const MOST_TOLD: u64 = 5;
+const MOST_TOLD: u32 = 5;
 
 // The family at work, and what is counted of it.
 #[derive(Drop)]
 struct Family {
-    name: String,
-    calls: u64,
-    differences: u64,
+    name: Vec<u8>,
+    calls: u32,
+    differences: u32,
 }
 
 impl Family {
-    fn new(name: String) -> Family {
+    fn new(name: Vec<u8>) -> Family {
         Family {
             name,
             calls: 0,
@@ -30,19 +30,19 @@ impl Family {
 #[derive(Clone, Copy)]
 struct Refused {
     reason: Reason,
-    calls: u64,
+    calls: u32,
 }
 
 #[derive(Drop)]
 pub(super) struct Tally {
     rt: HostRuntime,
     // The page's line that is being run, and the case of it.
-    line: u64,
+    line: u32,
     case: u32,
     family: Family,
     // In all families.
-    differences: u64,
-    accepted: u64,
+    differences: u32,
+    accepted: u32,
     refused: [Refused; Reason::ALL.len()],
 }
 
@@ -52,7 +52,7 @@ impl Tally {
             rt,
             line: 0,
             case: 0,
-            family: Family::new(String::new(alloc)),
+            family: Family::new(Vec::new(alloc)),
             differences: 0,
             accepted: 0,
             refused: Reason::ALL.map(|reason| Refused { reason, calls: 0 }),
@@ -68,7 +68,7 @@ impl Tally {
     }
 
     // The family's calls so far.
-    pub(super) fn calls(&self) -> u64 {
+    pub(super) fn calls(&self) -> u32 {
         self.family.calls
     }
 
@@ -105,12 +105,12 @@ impl Tally {
             "difference, in the family below: line={} case={} told={} expected={expected}",
             self.line,
             self.case,
-            Numbers(told)
+            Numbers::from(told)
         )
     }
 
     // Ends the family at work, and begins the one of that name.
-    pub(super) fn begin_family(&mut self, name: String) -> io::Result<()> {
+    pub(super) fn begin_family(&mut self, name: Vec<u8>) -> io::Result<()> {
         self.tell_family()?;
         self.family = Family::new(name);
         Ok(())
@@ -126,7 +126,9 @@ impl Tally {
         if *calls == 0 {
             return Ok(());
         }
-        println!(self.rt; "family={name} calls={calls} differences={differences}")
+        print!(self.rt; "family=")?;
+        self.rt.write_all(name)?;
+        println!(self.rt; " calls={calls} differences={differences}")
     }
 
     fn tell_reasons(&self) -> io::Result<()> {
