@@ -69,7 +69,7 @@ pub(super) fn read(lists: Lists<'_>) -> io::Result<Left> {
         lists.grants.lent(more),
         state.lent_mut(more),
     );
-    let told = answer_of(answer.reason, answer.place)?;
+    let told = told(answer)?;
     Ok(Left { told, state })
 }
 
@@ -77,7 +77,6 @@ pub(super) fn read(lists: Lists<'_>) -> io::Result<Left> {
 pub(super) fn list(alloc: Global, state: &List, room: usize) -> io::Result<Listed> {
     let more = room;
     let mut room = vec![in alloc; FILLER; room]?;
-    let answer = lister::list(state.lent(more), &mut room);
-    let told = answer_of(answer.reason, answer.place)?;
+    let told = told(lister::list(state.lent(more), &mut room))?;
     Ok(Listed { told, room })
 }
