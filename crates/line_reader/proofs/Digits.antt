@@ -1,13 +1,15 @@
 -- A digit, and digits as they come in.
 -- Assumes nothing.
+use Rattle.std.specs.Prelude.{Option, Some, None, unwrap_or}
+use Rattle.std.proofs.lemmas.Option.{none-some}
 use mathlib.Core.Path.{◌≡◌, refl, sym, ap, ◌∙◌}
 use mathlib.Core.Bool.{Bool, true, false, cond, ◌||◌}
 use mathlib.Core.List.{[], ◌∷◌, ◌++◌}
 use Prim.Native.Nat.{ℕ, zero, suc, ◌+◌, ◌*◌, ◌-◌, ◌/◌, ◌%◌, ◌≤◌, ◌<◌, ◌^◌}
 use native.Mathlib.Omega.{arith}
 use native.Mathlib.Nat.{pow-suc, mul_comm, div-div-eq-div-mul}
-use borrow.Author.Tests.{le-leb, lt-leb}
-use lib.Dec.{T, leb, eqb}
+use borrow.Author.Tests.{le-leb, lt-leb, lt-ltb, le-ltb, ltb-true, ltb-false}
+use lib.Dec.{T, leb, ltb, eqb}
 use lib.ListN.{get_or}
 use mir.Facts.{eqb_yes}
 use Rattle.laws.specs.Lists.{every, from}
@@ -17,7 +19,7 @@ use Rattle.laws.proofs.Tests.{within_iff, holds_of}
 use Rattle.meaning.specs.Lister.{digit, hex}
 use Rattle.meaning.specs.ListingReader.{is_hex, digit_worth}
 use Rattle.listings.proofs.Digits.{digit_worth_lem, worth_digit}
-use Rattle.line_reader.specs.Named.{digit_or_16, digit_table}
+use Rattle.line_reader.specs.Named.{digit_or_16, digit_table, hex_digit}
 
 -- the table has what each byte counts
 table_test : T (every (λ x. eqb (get_or digit_table x 0) (digit_or_16 x)) (from 0 256))
@@ -35,6 +37,32 @@ digit_small x = by (within 48 57 x) refl (within 97 102 x) refl
     by true e q f = omega (arith, ((within_iff 48 57 x).0 (holds_of e)).1)
     by false e true f = omega (arith, ((within_iff 97 102 x).0 (holds_of f)).1)
     by false e false f = omega arith
+
+-- what a byte counts, as it is told,
+pub counts_none : (x : ℕ) {d : ℕ} → d ≡ digit_or_16 x → 15 < d → None ≡ hex_digit x
+unfolding hex_digit
+counts_none x e l = rw (lt-ltb 15 (digit_or_16 x) (omega (arith, e)))
+
+pub counts_some : (x : ℕ) {d : ℕ} → d ≡ digit_or_16 x → d ≤ 15 → Some d ≡ hex_digit x
+unfolding hex_digit
+counts_some x e l = rw (le-ltb 15 (digit_or_16 x) (omega (arith, e)), e)
+
+-- and what that tells
+pub hex_none : (x : ℕ) → None ≡ hex_digit x → 15 < digit_or_16 x
+unfolding hex_digit
+hex_none x e = by (ltb 15 (digit_or_16 x)) refl e
+  where
+    by : (b : Bool) → ltb 15 (digit_or_16 x) ≡ b → None ≡ cond b None (Some (digit_or_16 x)) → 15 < digit_or_16 x
+    by true l e = ltb-true 15 (digit_or_16 x) l
+    by false l e = absurd (none-some (digit_or_16 x) e)
+
+pub hex_some : (x : ℕ) {d : ℕ} → Some d ≡ hex_digit x → (d ≡ digit_or_16 x) × (d ≤ 15)
+unfolding hex_digit
+hex_some x {d} e = by (ltb 15 (digit_or_16 x)) refl e
+  where
+    by : (b : Bool) → ltb 15 (digit_or_16 x) ≡ b → Some d ≡ cond b None (Some (digit_or_16 x)) → (d ≡ digit_or_16 x) × (d ≤ 15)
+    by true l e = absurd (none-some d (sym e))
+    by false l e = let s : d ≡ digit_or_16 x = ap (λ (o : Option ℕ). unwrap_or o 0) e in (s, omega (arith, s, ltb-false 15 (digit_or_16 x) l))
 
 hex_told : (x : ℕ) → digit_or_16 x < 16 → T (is_hex x) × (digit_worth x ≡ digit_or_16 x)
 unfolding digit_or_16 is_hex digit_worth

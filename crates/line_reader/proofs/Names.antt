@@ -1,5 +1,7 @@
 -- The names of cells and the words that they are: what the code's two `match`es tell of them, and that they find each name.
 -- Assumes nothing.
+use Rattle.std.specs.Prelude.{Option, Some, None, IfSome, unwrap_or}
+use Rattle.std.proofs.lemmas.Option.{none-some}
 use mathlib.Core.Path.{◌≡◌, refl, sym, ap, ap₂, ◌∙◌}
 use mathlib.Core.Bool.{Bool, true, false, cond, ◌&&◌, not}
 use mathlib.Core.List.{List, [], ◌∷◌}
@@ -21,7 +23,7 @@ use Rattle.meaning.proofs.Bytes.{words_bytes}
 use Rattle.registers.specs.Names.{type_of, sub_type_of, address_of, offset_of}
 use Rattle.listings.specs.Lines.{name_3d, name_video, name_text}
 use Rattle.line_reader.specs.Named.{digit_or_16, cell_3d_by, cell_3d_of, cell_video_of}
-use Rattle.line_reader.specs.Read.{NameAt}
+use Rattle.line_reader.specs.Read.{NameAt, NoName}
 use Rattle.line_reader.proofs.Fours.{bytes_once}
 use Rattle.line_reader.proofs.Digits.{counts_digit}
 
@@ -66,56 +68,65 @@ length_video c l = rw (name_video_lem c l)
 
 -- ---- each name is found
 
+is_cell : Option ℕ → ℕ → Bool
+is_cell None c = false
+is_cell (Some x) c = eqb x c
+
+is_cell_lem : (o : Option ℕ) (c : ℕ) → T (is_cell o c) → o ≡ Some c
+unfolding is_cell
+is_cell_lem None c t = absurd t
+is_cell_lem (Some x) c t = ap Some (eqb_yes t)
+
 -- a 3D name's three words,
 found_in_3d : ℕ → List ℕ → Bool
 found_in_3d c [] = false
 found_in_3d c (r ∷ []) = false
 found_in_3d c (r ∷ k ∷ []) = false
-found_in_3d c (r ∷ k ∷ n ∷ rest) = eqb r reg_key && eqb (cell_3d_of k n) c
+found_in_3d c (r ∷ k ∷ n ∷ rest) = eqb r reg_key && is_cell (cell_3d_of k n) c
 
 -- and a video name's two, of which the second is no 3D name's
 found_in_video : ℕ → List ℕ → Bool
 found_in_video c [] = false
 found_in_video c (r ∷ []) = false
-found_in_video c (r ∷ o ∷ rest) = eqb r reg_key && (eqb (cell_video_of o) c && (not (eqb o 0x302E3130) && (not (eqb o 0x302E3230) && not (eqb o 0x322E3230))))
+found_in_video c (r ∷ o ∷ rest) = eqb r reg_key && (is_cell (cell_video_of o) c && (not (eqb o 0x302E3130) && (not (eqb o 0x302E3230) && not (eqb o 0x322E3230))))
 
 names_found : T (every (λ c. found_in_3d c (words_of (name_text c))) (from 0 first_video)) × T (every (λ c. found_in_video c (words_of (name_text c))) (from first_video (end_video - first_video)))
-unfolding every from found_in_3d found_in_video name_text name_3d name_video hex digit type_of sub_type_of address_of offset_of digit_or_16 cell_3d_of cell_3d_by cell_video_of
+unfolding every from is_cell found_in_3d found_in_video name_text name_3d name_video hex digit type_of sub_type_of address_of offset_of digit_or_16 cell_3d_of cell_3d_by cell_video_of
 names_found = (tt, tt)
 
 module _ (c r k n : ℕ) (w : All Word (r ∷ k ∷ n ∷ [])) where
-  pub found_3d : c < first_video → bytes_of (r ∷ k ∷ n ∷ []) ≡ name_text c → (r ≡ reg_key) × (cell_3d_of k n ≡ c)
+  pub found_3d : c < first_video → bytes_of (r ∷ k ∷ n ∷ []) ≡ name_text c → (r ≡ reg_key) × (cell_3d_of k n ≡ Some c)
   unfolding found_in_3d
   found_3d l e =
       let same : words_of (name_text c) ≡ r ∷ k ∷ n ∷ [] = ap words_of (sym e) ∙ words_bytes (r ∷ k ∷ n ∷ []) w in
       let t = every_from (λ c. found_in_3d c (words_of (name_text c))) 0 first_video names_found.0 c (omega arith) (omega arith) in
       let both = and_yes (eqb r reg_key) _ (rw same at t) in
-      (eqb_yes both.0, eqb_yes both.1)
+      (eqb_yes both.0, is_cell_lem (cell_3d_of k n) c both.1)
 
 not_so : (b : Bool) → T (not b) → b ≡ false
 not_so true t = absurd t
 not_so false t = refl
 
 -- where the first half is none of the three, there is no 3D name
-none_3d : (k n : ℕ) → eqb k 0x302E3130 ≡ false → eqb k 0x302E3230 ≡ false → eqb k 0x322E3230 ≡ false → cell_3d_of k n ≡ cells
+none_3d : (k n : ℕ) → eqb k 0x302E3130 ≡ false → eqb k 0x302E3230 ≡ false → eqb k 0x322E3230 ≡ false → cell_3d_of k n ≡ None
 unfolding cell_3d_of cell_3d_by
 none_3d k n a b c = rw (a, b, c) (by (ltb 15 (digit_or_16 (n % 256))))
   where
-    by : (x : Bool) → cond x cells cells ≡ cells
+    by : (x : Bool) → ◌≡◌ {A = Option ℕ} (cond {A = Option ℕ} x None None) None
     by true = refl
     by false = refl
 
 module _ (c r o : ℕ) (w : All Word (r ∷ o ∷ [])) where
-  pub found_video : first_video ≤ c → c < end_video → bytes_of (r ∷ o ∷ []) ≡ name_text c → (r ≡ reg_key) × (cell_video_of o ≡ c) × ((n : ℕ) → cell_3d_of o n ≡ cells)
+  pub found_video : first_video ≤ c → c < end_video → bytes_of (r ∷ o ∷ []) ≡ name_text c → (r ≡ reg_key) × (cell_video_of o ≡ Some c) × ((n : ℕ) → cell_3d_of o n ≡ None)
   unfolding found_in_video
   found_video l h e =
       let same : words_of (name_text c) ≡ r ∷ o ∷ [] = ap words_of (sym e) ∙ words_bytes (r ∷ o ∷ []) w in
       let t = every_from (λ c. found_in_video c (words_of (name_text c))) first_video (end_video - first_video) names_found.1 c l (omega arith) in
       let p = and_yes (eqb r reg_key) _ (rw same at t) in
-      let q = and_yes (eqb (cell_video_of o) c) _ p.1 in
+      let q = and_yes (is_cell (cell_video_of o) c) _ p.1 in
       let x = and_yes (not (eqb o 0x302E3130)) _ q.1 in
       let y = and_yes (not (eqb o 0x302E3230)) _ x.1 in
-      (eqb_yes p.0, eqb_yes q.0, λ n. none_3d o n (not_so _ x.0) (not_so _ y.0) (not_so _ y.1))
+      (eqb_yes p.0, is_cell_lem (cell_video_of o) c q.0, λ n. none_3d o n (not_so _ x.0) (not_so _ y.0) (not_so _ y.1))
 
 -- ---- and what is found is a name
 
@@ -152,45 +163,41 @@ module _ (k n : ℕ) where
       (ltb_yes both.0, ap₂ (λ (a b : ℕ). bytes_of (reg_key ∷ a ∷ b ∷ [])) e (sym whole) ∙ sym (same_list_lem _ _ both.1))
 
 -- a property of both ways of a test
-pick : (P : ℕ → Type 0) (b : Bool) {x y : ℕ} → (b ≡ true → P x) → (b ≡ false → P y) → P (cond b x y)
+pick : (P : Option ℕ → Type 0) (b : Bool) {x y : Option ℕ} → (b ≡ true → P x) → (b ≡ false → P y) → P (cond b x y)
 pick P true p q = p refl
 pick P false p q = q refl
 
 module _ (k n : ℕ) where
-  abbrev Told : ℕ → Type 0
-  Told c = c < cells → Is3D k n c
-
-  nobody : Told cells
-  nobody l = absurd (omega arith)
+  abbrev Told : Option ℕ → Type 0
+  Told c = IfSome c (Is3D k n)
 
   key : (x y : ℕ) → eqb x y ≡ true → x ≡ y
   key x y = eqb-true x y
 
-  target_told : (a b c : ℕ) → Is3D a b c → eqb k a ≡ true → eqb n b ≡ true → Told c
-  target_told a b c is e f l = rw (key k a e, key n b f) is
+  target_told : (a b c : ℕ) → Is3D a b c → eqb k a ≡ true → eqb n b ≡ true → Told (Some c)
+  target_told a b c is e f = rw (key k a e, key n b f) is
 
-  way : (b : Bool) {x y : ℕ} → (b ≡ true → Told x) → (b ≡ false → Told y) → Told (cond b x y)
-  way b p q = pick Told b p q
+  way : (b : Bool) (x y : Option ℕ) → (b ≡ true → Told x) → (b ≡ false → Told y) → Told (cond b x y)
+  way b x y p q = pick Told b p q
 
   pub named_3d : Told (cell_3d_of k n)
   unfolding cell_3d_of cell_3d_by
   named_3d =
       let d = digit_or_16 (n % 256) in
-      way (ltb 15 d) (λ h. nobody) (λ h.
+      way (ltb 15 d) _ _ (λ h. tt) (λ h.
       let low : d < 16 = omega (arith, ltb-false 15 d h) in
-      way (eqb k 0x302E3130) (λ e.
-      way (eqb n 0x66332E30) (target_told 0x302E3130 0x66332E30 0 target_names.0 e) (λ _.
-      way (eqb n 0x30352E30) (target_told 0x302E3130 0x30352E30 1 target_names.1 e) (λ _.
-      way (eqb n 0x31352E30) (target_told 0x302E3130 0x31352E30 2 target_names.2 e) (λ _.
-      way (eqb n 0x32352E30) (target_told 0x302E3130 0x32352E30 3 target_names.3 e) (λ _. nobody))))) (λ _.
-      way (eqb k 0x302E3230) (λ e.
-      way (eqb (n / 256) 0x30352E) (λ f l. in_series k n 4 2 0x302E3230 0x30352E all_series.0 low (key k _ e) (key (n / 256) _ f)) (λ _.
-      way (eqb (n / 256) 0x31352E) (λ f l. in_series k n 5 2 0x302E3230 0x31352E all_series.1 low (key k _ e) (key (n / 256) _ f)) (λ _. nobody))) (λ _.
-      way (eqb k 0x322E3230) (λ e.
-      way (eqb (n / 256) 0x30332E) (λ f l. in_series k n 36 3 0x322E3230 0x30332E all_series.2 low (key k _ e) (key (n / 256) _ f)) (λ _.
-      way (eqb (n / 256) 0x31332E) (λ f l. in_series k n 37 3 0x322E3230 0x31332E all_series.3 low (key k _ e) (key (n / 256) _ f)) (λ _.
-      way (eqb (n / 256) 0x32332E) (λ f l. in_series k n 38 3 0x322E3230 0x32332E all_series.4 low (key k _ e) (key (n / 256) _ f)) (λ _. nobody)))) (λ _.
-      nobody))))
+      way (eqb k 0x302E3130) _ _ (λ e.
+      way (eqb n 0x66332E30) _ _ (target_told 0x302E3130 0x66332E30 0 target_names.0 e) (λ _.
+      way (eqb n 0x30352E30) _ _ (target_told 0x302E3130 0x30352E30 1 target_names.1 e) (λ _.
+      way (eqb n 0x31352E30) _ _ (target_told 0x302E3130 0x31352E30 2 target_names.2 e) (λ _.
+      way (eqb n 0x32352E30) _ _ (target_told 0x302E3130 0x32352E30 3 target_names.3 e) (λ _. tt))))) (λ _.
+      way (eqb k 0x302E3230) _ _ (λ e.
+      way (eqb (n / 256) 0x30352E) _ _ (λ f. in_series k n 4 2 0x302E3230 0x30352E all_series.0 low (key k _ e) (key (n / 256) _ f)) (λ _.
+      way (eqb (n / 256) 0x31352E) _ _ (λ f. in_series k n 5 2 0x302E3230 0x31352E all_series.1 low (key k _ e) (key (n / 256) _ f)) (λ _. tt))) (λ _.
+      way (eqb k 0x322E3230) _ _ (λ e.
+      way (eqb (n / 256) 0x30332E) _ _ (λ f. in_series k n 36 3 0x322E3230 0x30332E all_series.2 low (key k _ e) (key (n / 256) _ f)) (λ _.
+      way (eqb (n / 256) 0x31332E) _ _ (λ f. in_series k n 37 3 0x322E3230 0x31332E all_series.3 low (key k _ e) (key (n / 256) _ f)) (λ _.
+      way (eqb (n / 256) 0x32332E) _ _ (λ f. in_series k n 38 3 0x322E3230 0x32332E all_series.4 low (key k _ e) (key (n / 256) _ f)) (λ _. tt)))) (λ _. tt))))
 
 -- ---- video names
 
@@ -209,9 +216,9 @@ keys =
     ∷ is 0x63663333 100 ∷ []
 
 -- the code's `match`, as a search
-search_keys : List Key → ℕ → ℕ
-search_keys [] o = cells
-search_keys (k ∷ ks) o = let more = search_keys ks o in cond (eqb o k.digits) k.cell more
+search_keys : List Key → ℕ → Option ℕ
+search_keys [] o = None
+search_keys (k ∷ ks) o = let more = search_keys ks o in cond (eqb o k.digits) (Some k.cell) more
 
 as_search : (o : ℕ) → cell_video_of o ≡ search_keys keys o
 unfolding cell_video_of search_keys keys
@@ -219,10 +226,10 @@ as_search o = refl
 
 -- c is a video cell, and these are the words of its name
 abbrev pub IsVideo : ℕ → ℕ → Type 0
-IsVideo o c = (first_video ≤ c) × (bytes_of (reg_key ∷ o ∷ []) ≡ name_text c)
+IsVideo o c = (first_video ≤ c) × (c < end_video) × (bytes_of (reg_key ∷ o ∷ []) ≡ name_text c)
 
 key_test : Key → Bool
-key_test k = leb first_video k.cell && same_list (bytes_of (reg_key ∷ k.digits ∷ [])) (name_text k.cell)
+key_test k = leb first_video k.cell && (ltb k.cell end_video && same_list (bytes_of (reg_key ∷ k.digits ∷ [])) (name_text k.cell))
 
 keys_test : T (every key_test keys)
 unfolding every keys key_test same_list name_text name_video hex digit offset_of
@@ -232,17 +239,18 @@ key_told : (o : ℕ) (k : Key) → eqb o k.digits ≡ true → T (key_test k) �
 unfolding key_test
 key_told o k e t =
     let p = and_yes (leb first_video k.cell) _ t in
-    (leb_yes p.0, rw (eqb-true o k.digits e) (same_list_lem _ _ p.1))
+    let q = and_yes (ltb k.cell end_video) _ p.1 in
+    (leb_yes p.0, ltb_yes q.0, rw (eqb-true o k.digits e) (same_list_lem _ _ q.1))
 
-searched : (o : ℕ) (ks : List Key) → T (every key_test ks) → search_keys ks o < cells → IsVideo o (search_keys ks o)
+searched : (o : ℕ) (ks : List Key) → T (every key_test ks) → IfSome (search_keys ks o) (IsVideo o)
 unfolding every search_keys
-searched o [] t l = absurd (omega arith)
-searched o (k ∷ ks) t l =
+searched o [] t = tt
+searched o (k ∷ ks) t =
     let both = and_yes (key_test k) _ t in
-    pick (λ (c : ℕ). c < cells → IsVideo o c) (eqb o k.digits) (λ e _. key_told o k e both.0) (λ _. searched o ks both.1) l
+    pick (λ (c : Option ℕ). IfSome c (IsVideo o)) (eqb o k.digits) (λ e. key_told o k e both.0) (λ _. searched o ks both.1)
 
-pub named_video : (o : ℕ) → cell_video_of o < cells → IsVideo o (cell_video_of o)
-named_video o l = rw (as_search o) (searched o keys keys_test (rw (as_search o) at l))
+pub named_video : (o : ℕ) → IfSome (cell_video_of o) (IsVideo o)
+named_video o = rw (as_search o) (searched o keys keys_test)
 
 -- ---- the name at the front of a text
 
@@ -255,15 +263,14 @@ begins d = elim (dec_lt d first_video) [
 ]
 
 -- the key is another
-pub no_key : (xs : List ℕ) (r : ℕ) → Word r → take 4 xs ≡ bytes_of (r ∷ []) → r ≢ reg_key → NameAt xs cells 0
-no_key xs r w f ne =
-    record {
-      found = λ l. absurd (omega arith);
-      only = λ d l e.
-          let b = begins d in
-          let same : bytes_of (r ∷ []) ≡ bytes_of (reg_key ∷ []) = sym f ∙ sym (take-take 4 (length (name_text d)) xs b.1) ∙ ap (take 4) e ∙ b.0 in
-          absurd (ne (ap (λ (l : List ℕ). get_or l 0 0) (bytes_once (r ∷ []) (reg_key ∷ []) (w, tt) (omega arith, tt) same)));
-    }
+pub no_key : (xs : List ℕ) (r : ℕ) → Word r → take 4 xs ≡ bytes_of (r ∷ []) → r ≢ reg_key → NoName xs
+no_key xs r w f ne d l e =
+    let b = begins d in
+    let same : bytes_of (r ∷ []) ≡ bytes_of (reg_key ∷ []) = sym f ∙ sym (take-take 4 (length (name_text d)) xs b.1) ∙ ap (take 4) e ∙ b.0 in
+    ne (ap (λ (l : List ℕ). get_or l 0 0) (bytes_once (r ∷ []) (reg_key ∷ []) (w, tt) (omega arith, tt) same))
+
+some_once : {a b : ℕ} → Some a ≡ Some b → a ≡ b
+some_once e = ap (λ (o : Option ℕ). unwrap_or o 0) e
 
 module _ (xs : List ℕ) (r k n : ℕ) (w : All Word (r ∷ k ∷ n ∷ [])) (three : take 12 xs ≡ bytes_of (r ∷ k ∷ n ∷ [])) where
   two : take 8 xs ≡ bytes_of (r ∷ k ∷ [])
@@ -271,26 +278,33 @@ module _ (xs : List ℕ) (r k n : ℕ) (w : All Word (r ∷ k ∷ n ∷ [])) (th
 
   -- whose it can be
   only : (d : ℕ) → d < cells → take (length (name_text d)) xs ≡ name_text d
-      → (r ≡ reg_key) × (((d < first_video) × (cell_3d_of k n ≡ d)) ⊎ ((cell_video_of k ≡ d) × (cell_3d_of k n ≡ cells)))
+      → (r ≡ reg_key) × (((d < first_video) × (cell_3d_of k n ≡ Some d)) ⊎ ((cell_video_of k ≡ Some d) × (cell_3d_of k n ≡ None)))
   only d l e = elim (dec_lt d first_video) [
     | yes h ↦ let f = found_3d d r k n w h (sym three ∙ (rw (length_3d d h) at e)) in (f.0, inl (h, f.1))
     | no h ↦ let f = found_video d r k (w.0, (w.1.0, tt)) (omega arith) l (sym two ∙ (rw (length_video d (omega arith)) at e)) in (f.0, inr (f.1, f.2 n))
   ]
 
   module _ (e : r ≡ reg_key) where
-    pub at_3d : cell_3d_of k n < cells → NameAt xs (cell_3d_of k n) 12
-    at_3d l =
-        let is = named_3d k n l in
+    pub at_3d : (c : ℕ) → Some c ≡ cell_3d_of k n → NameAt xs (record { cell = c; end = 12 })
+    at_3d c found =
+        let is : Is3D k n c = rw (sym found) at (named_3d k n) in
         record {
-          found = λ _. (sym (length_3d (cell_3d_of k n) is.0), three ∙ ap (λ (x : ℕ). bytes_of (x ∷ k ∷ n ∷ [])) e ∙ is.1);
-          only = λ d h s. elim (only d h s).1 [ inl f ↦ f.1 | inr f ↦ absurd (omega (arith, f.1)) ];
+          low = omega (arith, is.0);
+          long = sym (length_3d c is.0);
+          same = three ∙ ap (λ (x : ℕ). bytes_of (x ∷ k ∷ n ∷ [])) e ∙ is.1;
+          only = λ d h s. elim (only d h s).1 [ inl f ↦ some_once (found ∙ f.1) | inr f ↦ absurd (none-some c (sym (found ∙ f.1))) ];
         }
 
-    pub at_video : cells ≤ cell_3d_of k n → NameAt xs (cell_video_of k) 8
-    at_video l =
-        record {
-          found = λ h.
-              let is = named_video k h in
-              (sym (length_video (cell_video_of k) is.0), two ∙ ap (λ (x : ℕ). bytes_of (x ∷ k ∷ [])) e ∙ is.1);
-          only = λ d h s. elim (only d h s).1 [ inl f ↦ absurd (omega (arith, f.1)) | inr f ↦ f.0 ];
-        }
+    module _ (none : None ≡ cell_3d_of k n) where
+      pub at_video : (c : ℕ) → Some c ≡ cell_video_of k → NameAt xs (record { cell = c; end = 8 })
+      at_video c found =
+          let is : IsVideo k c = rw (sym found) at (named_video k) in
+          record {
+            low = is.1;
+            long = sym (length_video c is.0);
+            same = two ∙ ap (λ (x : ℕ). bytes_of (x ∷ k ∷ [])) e ∙ is.2;
+            only = λ d h s. elim (only d h s).1 [ inl f ↦ absurd (none-some d (none ∙ f.1)) | inr f ↦ some_once (found ∙ f.0) ];
+          }
+
+      pub no_video : None ≡ cell_video_of k → NoName xs
+      no_video video d h s = elim (only d h s).1 [ inl f ↦ none-some d (none ∙ f.1) | inr f ↦ none-some d (video ∙ f.0) ]

@@ -1,7 +1,7 @@
 -- Eight digits and the end of a line: what stands at the front of a text, and for which value.
 -- Assumes nothing.
+use Rattle.std.specs.Prelude.{Option, Some, None}
 use mathlib.Core.Path.{◌≡◌, refl, sym, ap, ◌∙◌}
-use mathlib.Core.Bool.{Bool, true, false, true≢false}
 use mathlib.Core.List.{List, [], ◌∷◌, ◌++◌}
 use mathlib.Core.Logic.{◌≢◌}
 use Prim.Native.Nat.{ℕ, suc, ◌+◌, ◌*◌, ◌≤◌, ◌<◌, ◌^◌}
@@ -15,10 +15,10 @@ use Rattle.meaning.specs.Lister.{digit, hex}
 use Rattle.meaning.specs.ListingReader.{worth}
 use Rattle.lines.specs.Lines.{value_text}
 use Rattle.listings.proofs.Digits.{worth_hex}
-use Rattle.line_reader.specs.Named.{digit_or_16}
-use Rattle.line_reader.specs.Read.{Four, DigitsAt, ValueAt}
+use Rattle.line_reader.specs.Named.{hex_digit}
+use Rattle.line_reader.specs.Read.{Four, Stands, NoneStands, DigitsAt, ValueAt}
 use Rattle.line_reader.proofs.Fours.{bytes_once}
-use Rattle.line_reader.proofs.Digits.{counts_digit, digit_counts, hex_hex, hex_more}
+use Rattle.line_reader.proofs.Digits.{hex_none, hex_some, counts_digit, digit_counts, hex_hex, hex_more}
 
 -- two numbers of the same digits
 hex_once : (u v : ℕ) → Word u → Word v → hex 8 u ≡ hex 8 v → u ≡ v
@@ -37,26 +37,22 @@ unfolding hex
 making_start t at l = record { room = l; few = omega arith; low = omega arith; made = refl }
 
 module _ {t : List ℕ} {at value i : ℕ} (m : Making t at value i) where
-  pub making_done : 8 ≤ i → DigitsAt (drop at t) true value
+  pub making_done : 8 ≤ i → Stands (hex 8) 8 (drop at t) value
   making_done l =
       let e : i ≡ 8 = omega (arith, m.few) in
       let low : Word value = rw e at m.low in
       let made : take 8 (drop at t) ≡ hex 8 value = rw e at m.made in
-      record { found = λ _. (low, made); only = λ u w s. (refl, hex_once value u low w (sym made ∙ s)) }
+      record { word = low; same = made; only = λ u w s. hex_once value u low w (sym made ∙ s) }
 
   module _ (l : i < 8) where
     byte : get_or (drop at t) i 0 ≡ get_or t (at + i) 0
     byte = get_or-drop at t i 0
 
     -- no digit
-    pub making_stopped : {v : ℕ} {fine : Bool} → fine ≡ false → 15 < digit_or_16 (get_or t (at + i) 0) → DigitsAt (drop at t) fine v
-    making_stopped e h =
-        record {
-          found = λ f. absurd (true≢false (sym f ∙ e));
-          only = λ u w s.
-              let x : get_or (hex 8 u) i 0 ≡ get_or t (at + i) 0 = ap (λ (y : List ℕ). get_or y i 0) (sym s) ∙ get_or-take 8 (drop at t) i 0 l ∙ byte in
-              absurd (omega (arith, digit_counts (get_or t (at + i) 0) (rw x at (hex_hex 8 u i l))));
-        }
+    pub making_stopped : None ≡ hex_digit (get_or t (at + i) 0) → NoneStands (hex 8) 8 (drop at t)
+    making_stopped h u w s =
+        let x : get_or (hex 8 u) i 0 ≡ get_or t (at + i) 0 = ap (λ (y : List ℕ). get_or y i 0) (sym s) ∙ get_or-take 8 (drop at t) i 0 l ∙ byte in
+        absurd (omega (arith, hex_none _ h, digit_counts (get_or t (at + i) 0) (rw x at (hex_hex 8 u i l))))
 
     pub making_fits : (d : ℕ) → d ≤ 15 → value * 16 + d < 2 ^ 32
     making_fits d h =
@@ -64,8 +60,10 @@ module _ {t : List ℕ} {at value i : ℕ} (m : Making t at value i) where
         let q : 16 ^ i ≤ 268435456 = p in
         omega (arith, m.low)
 
-    pub making_next : (d : ℕ) → d ≡ digit_or_16 (get_or t (at + i) 0) → d ≤ 15 → Making t at (value * 16 + d) (i + 1)
-    making_next d e h =
+    pub making_next : {d : ℕ} → Some d ≡ hex_digit (get_or t (at + i) 0) → Making t at (value * 16 + d) (i + 1)
+    making_next {d} told =
+        let e = (hex_some (get_or t (at + i) 0) told).0 in
+        let h = (hex_some (get_or t (at + i) 0) told).1 in
         let s : i + 1 ≡ suc i = omega arith in
         let j : i < length (drop at t) = omega (arith, length-drop at t, m.room) in
         let x = get_or t (at + i) 0 in
@@ -117,32 +115,31 @@ module _ (t : List ℕ) (at : ℕ) (room : at + 14 ≤ length t) where
   long = omega (arith, length-drop at t)
 
   -- something else stands there
-  refuted : {v : ℕ} {fine : Bool} → fine ≡ false → ((u : ℕ) → Ends ys u → ⊥) → ValueAt ys fine v
-  refuted e none = record { found = λ f. absurd (true≢false (sym f ∙ e)); only = λ u w s. absurd (none u (ends_of ys u s)) }
+  refuted : ((u : ℕ) → Ends ys u → ⊥) → NoneStands value_text 14 ys
+  refuted none u w s = none u (ends_of ys u s)
 
   module _ {w : ℕ} (f : Four t at w) where
-    pub no_key : {v : ℕ} {fine : Bool} → fine ≡ false → w ≢ val_key → ValueAt ys fine v
-    no_key e ne = refuted e (λ u p. ne (ap (λ (l : List ℕ). get_or l 0 0) (bytes_once (w ∷ []) (val_key ∷ []) (f.word, tt) (omega arith, tt) (sym f.same ∙ p.key))))
+    pub no_key : w ≢ val_key → NoneStands value_text 14 ys
+    no_key ne = refuted (λ u p. ne (ap (λ (l : List ℕ). get_or l 0 0) (bytes_once (w ∷ []) (val_key ∷ []) (f.word, tt) (omega arith, tt) (sym f.same ∙ p.key))))
 
-    pub no_equals : {v : ℕ} {fine : Bool} → fine ≡ false → get_or t (at + 4) 0 ≢ 61 → ValueAt ys fine v
-    no_equals e ne = refuted e (λ u p. ne (sym (get_or-drop at t 4 0) ∙ p.equals))
+    pub no_equals : get_or t (at + 4) 0 ≢ 61 → NoneStands value_text 14 ys
+    no_equals ne = refuted (λ u p. ne (sym (get_or-drop at t 4 0) ∙ p.equals))
 
-    pub no_newline : {v : ℕ} {fine : Bool} → fine ≡ false → get_or t (at + 13) 0 ≢ 10 → ValueAt ys fine v
-    no_newline e ne = refuted e (λ u p. ne (sym (get_or-drop at t 13 0) ∙ p.newline))
+    pub no_newline : get_or t (at + 13) 0 ≢ 10 → NoneStands value_text 14 ys
+    no_newline ne = refuted (λ u p. ne (sym (get_or-drop at t 13 0) ∙ p.newline))
 
-    pub value_of : w ≡ val_key → get_or t (at + 4) 0 ≡ 61 → get_or t (at + 13) 0 ≡ 10 → {v : ℕ} {fine : Bool} → DigitsAt (drop (at + 5) t) fine v → ValueAt ys fine v
-    value_of key equals newline {v} {fine} d =
+    pub value_of : w ≡ val_key → get_or t (at + 4) 0 ≡ 61 → get_or t (at + 13) 0 ≡ 10 → (r : Option ℕ) → DigitsAt (drop (at + 5) t) r → ValueAt ys r
+    value_of key equals newline (Some v) d =
         record {
-          found = λ e.
-              let p = d.found e in (
-                p.0,
-                of_ends ys v long
-                    (record {
-                      key = f.same ∙ rw key;
-                      equals = get_or-drop at t 4 0 ∙ equals;
-                      digits = ap (take 8) (drop-drop 5 at t) ∙ p.1;
-                      newline = get_or-drop at t 13 0 ∙ newline;
-                    }),
-              );
+          word = d.word;
+          same =
+              of_ends ys v long
+              (record {
+                key = f.same ∙ rw key;
+                equals = get_or-drop at t 4 0 ∙ equals;
+                digits = ap (take 8) (drop-drop 5 at t) ∙ d.same;
+                newline = get_or-drop at t 13 0 ∙ newline;
+              });
           only = λ u x s. d.only u x (ap (take 8) (sym (drop-drop 5 at t)) ∙ (ends_of ys u s).digits);
         }
+    value_of key equals newline None d = λ u x s. d u x (ap (take 8) (sym (drop-drop 5 at t)) ∙ (ends_of ys u s).digits)

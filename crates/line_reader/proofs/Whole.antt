@@ -1,7 +1,7 @@
 -- A line from its name and its value; and why it is none.
 -- Assumes nothing.
+use Rattle.std.specs.Prelude.{Option, Some, None}
 use mathlib.Core.Path.{◌≡◌, refl, sym, ap, ap₂, ◌∙◌}
-use mathlib.Core.Bool.{Bool, true, false, true≢false}
 use mathlib.Core.List.{List, ◌++◌, append_assoc}
 use Prim.Native.Nat.{ℕ, ◌+◌, ◌≤◌, ◌<◌, ◌^◌}
 use native.Mathlib.Omega.{arith}
@@ -13,7 +13,9 @@ use Rattle.meaning.specs.Lister.{hex}
 use Rattle.lines.specs.Lines.{value_text}
 use Rattle.listings.specs.Lines.{name_text, line_text, LineHere}
 use Rattle.listings.proofs.Numbers.{width_3d, width_video, value_word}
-use Rattle.line_reader.specs.Read.{NameAt, ValueAt, LineAt}
+use Rattle.line_reader.specs.declared.Name.{Name}
+use Rattle.line_reader.specs.declared.Line.{Line}
+use Rattle.line_reader.specs.Read.{Stands, NoneStands, NameAt, NoName, LineAt}
 use Rattle.line_reader.proofs.Names.{length_3d, length_video}
 use Rattle.line_reader.proofs.Values.{standing}
 
@@ -47,90 +49,81 @@ module _ (xs : List ℕ) (d u : ℕ) (h : LineHere xs d u) where
       ap (take 14) d' ∙ take_at (value_text u) _ 14 (value_length u)
 
 -- a name is short
-pub name_ends : (xs : List ℕ) {n e : ℕ} → NameAt xs n e → n < cells → e ≤ 12
-name_ends xs {n} name l = elim (dec_lt n first_video) [
-  | yes h ↦ omega (arith, (name.found l).0, length_3d n h)
-  | no h ↦ omega (arith, (name.found l).0, length_video n (omega arith))
+pub name_ends : (xs : List ℕ) {n : Name} → NameAt xs n → n.end ≤ 12
+name_ends xs {n} name = elim (dec_lt n.cell first_video) [
+  | yes h ↦ omega (arith, name.long, length_3d n.cell h)
+  | no h ↦ omega (arith, name.long, length_video n.cell (omega arith))
 ]
 
 -- ---- the answers
 
-module _ (xs : List ℕ) (first end : ℕ) (in_table : end ≤ cells) {c v : ℕ} (none : (c ≡ cells) × (v ≡ 0)) where
+module _ (xs : List ℕ) (first end : ℕ) (in_table : end ≤ cells) where
   -- none, where no line can stand
-  refuted : ((d u : ℕ) → first ≤ d → d < end → LineHere xs d u → ⊥) → LineAt xs first end c v
-  refuted never = record { found = λ l. absurd (omega (arith, none.0)); only = λ d u a b h. absurd (never d u a b h); none = λ _. none }
+  refuted : ((d u : ℕ) → first ≤ d → d < end → LineHere xs d u → ⊥) → LineAt xs first end None
+  refuted never = record { found = tt; only = λ d u a b h. absurd (never d u a b h) }
 
-  pub too_short : length xs < 22 → LineAt xs first end c v
+  pub too_short : length xs < 22 → LineAt xs first end None
   too_short l = refuted (λ d u a b h. elim (dec_lt d first_video) [
     | yes k ↦ omega (arith, here_long xs d u h, length_3d d k)
     | no k ↦ omega (arith, here_long xs d u h, length_video d (omega arith))
   ])
 
-  module _ {n e : ℕ} (name : NameAt xs n e) where
-    its : (d u : ℕ) → d < end → LineHere xs d u → n ≡ d
+  pub no_name : NoName xs → LineAt xs first end None
+  no_name none = refuted (λ d u a b h. none d (omega arith) (here_name xs d u h))
+
+  module _ {n : Name} (name : NameAt xs n) where
+    its : (d u : ℕ) → d < end → LineHere xs d u → n.cell ≡ d
     its d u b h = name.only d (omega arith) (here_name xs d u h)
 
-    pub before_first : n < first → LineAt xs first end c v
+    its_end : (d u : ℕ) → d < end → LineHere xs d u → n.end ≡ length (name_text d)
+    its_end d u b h = name.long ∙ ap (λ (x : ℕ). length (name_text x)) (its d u b h)
+
+    pub before_first : n.cell < first → LineAt xs first end None
     before_first l = refuted (λ d u a b h. omega (arith, its d u b h))
 
-    pub past_end : end ≤ n → LineAt xs first end c v
+    pub past_end : end ≤ n.cell → LineAt xs first end None
     past_end l = refuted (λ d u a b h. omega (arith, its d u b h))
 
-    module _ (low : n < end) where
-      ends : e ≡ length (name_text n)
-      ends = (name.found (omega arith)).0
+    pub by_no_room : length xs < n.end + 14 → LineAt xs first end None
+    by_no_room l = refuted (λ d u a b h. omega (arith, here_long xs d u h, its_end d u b h))
 
-      pub by_no_room : length xs < e + 14 → LineAt xs first end c v
-      by_no_room l = refuted (λ d u a b h. omega (arith, here_long xs d u h, ends ∙ ap (λ (x : ℕ). length (name_text x)) (its d u b h)))
+    pub no_value : NoneStands value_text 14 (drop n.end xs) → LineAt xs first end None
+    no_value none = refuted (λ d u a b h. none u (value_word d u (omega arith) h.narrow) (rw (its_end d u b h) (here_value xs d u h)))
 
-      module _ {fine : Bool} {value : ℕ} (stands : ValueAt (drop e xs) fine value) where
-        same_value : (d u : ℕ) → d < end → LineHere xs d u → (fine ≡ true) × (value ≡ u)
-        same_value d u b h =
-            let at : e ≡ length (name_text d) = ends ∙ ap (λ (x : ℕ). length (name_text x)) (its d u b h) in
-            stands.only u (value_word d u (omega arith) h.narrow) (rw at (here_value xs d u h))
+    module _ {value : ℕ} (stands : Stands value_text 14 (drop n.end xs) value) where
+      same_value : (d u : ℕ) → d < end → LineHere xs d u → value ≡ u
+      same_value d u b h = stands.only u (value_word d u (omega arith) h.narrow) (rw (its_end d u b h) (here_value xs d u h))
 
-        pub no_value : fine ≡ false → LineAt xs first end c v
-        no_value f = refuted (λ d u a b h. true≢false (sym (same_value d u b h).0 ∙ f))
+      pub too_wide : n.cell < first_video → 16777215 < value → LineAt xs first end None
+      too_wide k w = refuted (λ d u a b h.
+          let k' : d < first_video = omega (arith, its d u b h) in
+          omega (arith, same_value d u b h, rw (width_3d d k') at h.narrow))
 
-        pub too_wide : n < first_video → 16777215 < value → LineAt xs first end c v
-        too_wide k w = refuted (λ d u a b h.
-            let k' : d < first_video = omega (arith, its d u b h) in
-            omega (arith, (same_value d u b h).1, rw (width_3d d k') at h.narrow))
+      module _ (from : first ≤ n.cell) (low : n.cell < end) where
+        line_of : value < 2 ^ (register_at (cell n.cell)).width → LineAt xs first end (Some (record { cell = n.cell; value = value }))
+        line_of narrow = record {
+          found = (
+            from,
+            (
+              low,
+              record {
+                narrow = narrow;
+                same = rw (line_length n.cell value, ← name.long) (take-add n.end 14 xs ∙ ap₂ (λ (x y : List ℕ). x ++ y) name.same stands.same);
+              },
+            ),
+          );
+          only = λ d u a b h. ap₂ (λ (c v : ℕ). Some (record { cell = c; value = v })) (its d u b h) (same_value d u b h);
+        }
 
-module _ (xs : List ℕ) (first end : ℕ) (in_table : end ≤ cells) {n e : ℕ} (name : NameAt xs n e) (from : first ≤ n) (low : n < end) (room : e + 14 ≤ length xs)
-    {fine : Bool} {value : ℕ} (stands : ValueAt (drop e xs) fine value) (f : fine ≡ true) where
-  pub line_of : value < 2 ^ (register_at (cell n)).width → LineAt xs first end n value
-  line_of narrow =
-      let p = name.found (omega arith) in
-      let s = stands.found f in
-      record {
-        found = λ _. (
-          from,
-          low,
-          record {
-            narrow = narrow;
-            same = rw (line_length n value, ← p.0) (take-add e 14 xs ∙ ap₂ (λ (x y : List ℕ). x ++ y) p.1 s.1);
-          },
-        );
-        only = λ d u a b h.
-            let same : n ≡ d = name.only d (omega arith) (here_name xs d u h) in
-            let at : e ≡ length (name_text d) = p.0 ∙ ap (λ (x : ℕ). length (name_text x)) same in
-            (same, (stands.only u (value_word d u (omega arith) h.narrow) (rw at (here_value xs d u h))).1);
-        none = λ l. absurd (omega arith);
-      }
+        pub line_3d_lem : n.cell < first_video → value ≤ 16777215 → LineAt xs first end (Some (record { cell = n.cell; value = value }))
+        line_3d_lem k w = line_of (rw (width_3d n.cell k) (omega arith))
 
-  pub line_3d_lem : n < first_video → value ≤ 16777215 → LineAt xs first end n value
-  line_3d_lem k w = line_of (rw (width_3d n k) (omega arith))
-
-  pub line_video_lem : first_video ≤ n → LineAt xs first end n value
-  line_video_lem k = line_of (rw (width_video n k (omega arith)) (stands.found f).0)
+        pub line_video_lem : first_video ≤ n.cell → LineAt xs first end (Some (record { cell = n.cell; value = value }))
+        line_video_lem k = line_of (rw (width_video n.cell k (omega arith)) stands.word)
 
 -- ---- one line at most
 
-pub line_once : (xs : List ℕ) (first end : ℕ) {c v d u : ℕ} → LineAt xs first end c v → LineAt xs first end d u → (c ≡ d) × (v ≡ u)
-line_once xs first end {c} {v} {d} {u} p q = by (dec_lt c cells) (dec_lt d cells)
-  where
-    by : Dec (c < cells) → Dec (d < cells) → (c ≡ d) × (v ≡ u)
-    by (yes l) z = let h = p.found l in let e = q.only c v h.0 h.1 h.2 in (sym e.0, sym e.1)
-    by (no l) (yes m) = let h = q.found m in p.only d u h.0 h.1 h.2
-    by (no l) (no m) = let a = p.none (omega arith) in let b = q.none (omega arith) in (a.0 ∙ sym b.0, a.1 ∙ sym b.1)
+pub line_once : (xs : List ℕ) (first end : ℕ) (r s : Option Line) → LineAt xs first end r → LineAt xs first end s → r ≡ s
+line_once xs first end (Some l) s p q = sym (q.only l.cell l.value p.found.0 p.found.1.0 p.found.1.1)
+line_once xs first end None (Some m) p q = p.only m.cell m.value q.found.0 q.found.1.0 q.found.1.1
+line_once xs first end None None p q = refl

@@ -1,5 +1,7 @@
 -- The loop over the lines: to read on from here is to read all lines.
 -- Assumes nothing.
+use Rattle.std.specs.Prelude.{Some, None}
+use Rattle.std.proofs.lemmas.Option.{none-some}
 use mathlib.Core.Path.{◌≡◌, refl, ap, ◌∙◌}
 use mathlib.Core.List.{List, [], ◌∷◌}
 use mathlib.Core.Logic.{◌≢◌}
@@ -16,6 +18,7 @@ use Rattle.listings.specs.Lines.{name_3d, name_video, line_for, lines_from, furt
 use Rattle.listings.proofs.Forms.{along_within}
 use Rattle.listings.proofs.Numbers.{by_number, line_3d_lem, line_video_lem}
 use Rattle.listings.proofs.Here.{form, here_whole, read_found, read_none}
+use Rattle.line_reader.specs.declared.Line.{Line}
 use Rattle.line_reader.specs.Read.{LineAt}
 
 -- ---- how long a line is
@@ -91,7 +94,7 @@ module _ (text : List ℕ) (start n : ℕ) (st₀ : List ℕ) where
         let y : at + 0 ≡ at = omega arith in
         (a ∙ (rw y at p.0), p.1)
 
-    module _ (some : left ≢ 0) {found v : ℕ} (line : LineAt (drop at text) c (cells + 1 - left) found v) where
+    module _ (some : left ≢ 0) where
       abbrev k : ℕ
       k = left - 1
 
@@ -99,21 +102,30 @@ module _ (text : List ℕ) (start n : ℕ) (st₀ : List ℕ) where
       one_more = omega arith
 
       -- no line that may stand here does
-      pub lined_none : cells ≤ found → {far : ℕ} → far ≡ furthest_of c (cells + 1 - left - c) (drop at text) → {a : Answer} → a ≡ answer not_listing (at + far) → Done a st
-      lined_none none f e =
+      pub lined_none : LineAt (drop at text) c (cells + 1 - left) None → {far : ℕ} → far ≡ furthest_of c (cells + 1 - left - c) (drop at text) → {a : Answer} → a ≡ answer not_listing (at + far) → Done a st
+      lined_none line f e =
           let r : read_lines (lines_from c) left (drop at text) ≡ refused (furthest_of c (cells + 1 - left - c) (drop at text)) =
-          ap (λ (x : ℕ). read_lines (lines_from c) x (drop at text)) one_more ∙ read_none (drop at text) k (cells + 1 - left - c) c (omega (arith, g.enough)) (λ d u l h x. omega (arith, (line.only d u l (omega arith) x).0)) in
+          ap (λ (x : ℕ). read_lines (lines_from c) x (drop at text)) one_more ∙ read_none (drop at text) k (cells + 1 - left - c) c (omega (arith, g.enough)) (λ d u l h x. none-some _ (line.only d u l (omega arith) x)) in
           let p = stops _ r in
           (e ∙ ap (λ (x : ℕ). answer not_listing (at + x)) f ∙ p.0, p.1)
 
-      module _ (low : found < cells) where
-        here : (c ≤ found) × (found < cells + 1 - left)
-        here = ((line.found low).0, (line.found low).1)
+      -- one does
+      module _ {l : Line} (line : LineAt (drop at text) c (cells + 1 - left) (Some l)) where
+        abbrev found : ℕ
+        found = l.cell
 
-        -- one does
+        abbrev v : ℕ
+        v = l.value
+
+        pub found_low : found < cells
+        found_low = omega (arith, line.found.1.0)
+
+        here : (c ≤ found) × (found < cells + 1 - left)
+        here = (line.found.0, line.found.1.0)
+
         pub line_inside : {w : ℕ} → w ≡ length (form_of (line_for found)) → at + w ≤ length text
         line_inside e =
-            omega (arith, (along_within (form found) (drop at text)).1, here_whole (drop at text) found low v (line.found low).2, length-drop at text, g.inside)
+            omega (arith, (along_within (form found) (drop at text)).1, here_whole (drop at text) found found_low v line.found.1.1, length-drop at text, g.inside)
 
         pub lined_next : {w : ℕ} → w ≡ length (form_of (line_for found)) → Lined (at + w) (left - 1) (found + 1) (set (set st found v) (cells + found) 1)
         unfolding apply_all apply
@@ -121,7 +133,7 @@ module _ (text : List ℕ) (start n : ℕ) (st₀ : List ℕ) where
             let rest = read_lines (lines_from (found + 1)) (left - 1) (drop (at + w) text) in
             let r : read_lines (lines_from c) left (drop at text) ≡ further w (with (record { cell = cell found; value = v }) rest) =
             ap (λ (x : ℕ). read_lines (lines_from c) x (drop at text)) one_more
-            ∙ read_found (drop at text) k c found v here.0 (omega (arith, here.1)) (line.found low).2
+            ∙ read_found (drop at text) k c found v here.0 (omega (arith, here.1)) line.found.1.1
             ∙ rw (← e, drop-drop w at text) in
             let p = gives _ r in
             let place : at + w + rest.answer.place ≡ at + (w + rest.answer.place) = omega arith in

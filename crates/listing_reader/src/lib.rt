@@ -59,11 +59,10 @@ fn read_lines(digits: &[u8; 256], text: &[u8], start: usize, n: usize, state: &m
     let mut c = 0;
     for i in 0..n {
         let end = CELLS + 1 - (n - i);
-        let line = line_reader::read_line(digits, text, at, c, end);
-        let found = line.cell;
-        if CELLS <= found {
+        let Some(line) = line_reader::read_line(digits, text, at, c, end) else {
             return Err(Reason::NotAListing.at(at + line_places::furthest(text, at, c, end)));
-        }
+        };
+        let found = line.cell;
         at += width(found);
         c = found + 1;
         state[found] = line.value;

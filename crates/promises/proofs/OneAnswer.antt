@@ -381,7 +381,7 @@ which_grant_one κs a r r' s s' p q = one_result r r' (one_answer p q)
 
 -- no text has two lines at its front
 pub read_line_one : Determined read_line.Learnt
-read_line_one κs a r r' s s' p q = let same = line_once _ _ _ p q in ap₂ (λ (c v : ℕ). record { cell = c; value = v }) same.0 same.1
+read_line_one κs a r r' s s' p q = line_once _ _ _ r r' p q
 
 pub furthest_one : Determined furthest.Learnt
 furthest_one κs a r r' s s' p q = one_answer p q

@@ -23,10 +23,10 @@ overflow_add-at c =
       c.loop-i.invariant.inside,
     )
 
-pub returns-then-found-ge-CELLS : goal.returns-then-found-ge-CELLS
-returns-then-found-ge-CELLS c =
+pub returns-in_default : goal.returns-in_default
+returns-in_default c =
     let both =
-    lined_none c.args.text.now c.args.start c.args.n c.args.state.now c.loop-i.invariant (λ e. omega arith) c.read_line-line.ensures.line (omega arith) c.furthest.ensures.bytes
+    lined_none c.args.text.now c.args.start c.args.n c.args.state.now c.loop-i.invariant (λ e. omega arith) c.in_default.ensures.line c.furthest.ensures.bytes
     (rw c.at.ensures.at refl) in
     record { answer = both.0; state = both.1 }
 
@@ -34,14 +34,14 @@ pub overflow_add-at-in-loop-i : goal.overflow_add-at-in-loop-i
 overflow_add-at-in-loop-i c =
     omega (
       arith,
-      line_inside c.args.text.now c.args.start c.args.n c.args.state.now c.loop-i.invariant (λ e. omega arith) c.read_line-line.ensures.line (omega arith) c.width-at.ensures.width,
+      line_inside c.args.text.now c.args.start c.args.n c.args.state.now c.loop-i.invariant (λ e. omega arith) c.in-Some.ensures.line c.width-at.ensures.width,
     )
 
 pub loop-i-preserved : goal.loop-i-preserved
 loop-i-preserved c =
     let e : c.args.n - (c.loop-i.i + 1) ≡ c.args.n - c.loop-i.i - 1 = omega arith in
     rw e
-    (lined_next c.args.text.now c.args.start c.args.n c.args.state.now c.loop-i.invariant (λ e. omega arith) c.read_line-line.ensures.line (omega arith) c.width-at.ensures.width)
+    (lined_next c.args.text.now c.args.start c.args.n c.args.state.now c.loop-i.invariant (λ e. omega arith) c.in-Some.ensures.line c.width-at.ensures.width)
 
 pub returns-then-at-text : goal.returns-then-at-text
 returns-then-at-text c =
