@@ -16,7 +16,7 @@ use Rattle.laws.proofs.Tests.{true_of}
 use Rattle.meaning.specs.Words.{Byte, Word, words_of, bytes_of}
 use Rattle.meaning.specs.Registers.{cells, first_video, cell, register_at}
 use Rattle.meaning.specs.State.{state_words, value_at, well_formed}
-use Rattle.meaning.specs.Answers.{Answer, answer}
+use Rattle.meaning.specs.Answers.{Answer, answer, answer_in}
 use Rattle.meaning.specs.Lister.{listing}
 use Rattle.meaning.specs.Listings.{Listable, Listed, LongestListing}
 use Rattle.meaning.specs.ListingReader.{listing_leaves}
@@ -37,7 +37,7 @@ use Rattle.promises.specs.CallContracts.{Listing, ReadingListing, ListingBytes, 
 -- ==== The contracts
 
 -- what `listing_reader::read_listing` is proved to do, for any buffers that are lent to it,
-pub reads_listings : (κs : _) (a : _) (r : _) (s : _) → read_listing.Learnt κs a r s → ReadingListing a.0.now a.1.0.now r s.1.0.now
+pub reads_listings : (κs : _) (a : _) (r : _) (s : _) → read_listing.Learnt κs a r s → ReadingListing a.0.now a.1.0.now (answer_in r) s.1.0.now
 reads_listings κs a r s p = p
 
 -- and `irangelda_read_listing`

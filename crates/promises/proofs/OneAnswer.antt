@@ -2,7 +2,7 @@
 -- A contract is taken as its callers read it: NAME.Learnt, of lifetimes, arguments, an answer and the buffers at exit. Where the callers'
 -- part is needed too, it is NAME.Asked.
 -- Assumes nothing.
-use mathlib.Core.Path.{◌≡◌, sym, ap₂, ◌∙◌}
+use mathlib.Core.Path.{◌≡◌, sym, ap, ap₂, ◌∙◌}
 use mathlib.Core.List.{List, []}
 use Prim.Native.Nat.{ℕ}
 use native.Mathlib.Omega.{arith}
@@ -452,8 +452,14 @@ engine_feed_one κs a r r' s s' p q =
     let k = kept_some a.0.starts a.0.lasts (capped a.0.bounds) in
     one_answer (p k.0 k.1) (q k.0 k.1)
 
+abbrev closed : ℕ → ℕ → List ℕ → Closed
+closed r p st = record { reason = r; place = p; state = st }
+
 closed_same : (c c' : Closed) → c.reason ≡ c'.reason → c.place ≡ c'.place → c.state ≡ c'.state → c ≡ c'
-closed_same c c' r p s = cc
+closed_same c c' r p s =
+    ap (λ (x : ℕ). closed x c.place c.state) r
+    ∙ ap (λ (x : ℕ). closed c'.reason x c.state) p
+    ∙ ap (closed c'.reason c'.place) s
 
 pub engine_close_one : Determined engine_close.Learnt
 engine_close_one κs a r r' s s' p q =

@@ -16,7 +16,7 @@ use Rattle.meaning.specs.Batch.{Cut, HoldableTarget, HoldableScaler}
 use Rattle.meaning.specs.State.{value_at, mark_at, well_formed, empty, Write, apply_all, all_writes}
 use Rattle.meaning.specs.Pair.{wrote_pair, Permitted, Longest, Reached}
 use Rattle.meaning.specs.Positions.{writes_of}
-use Rattle.meaning.specs.Answers.{Answer, answer}
+use Rattle.meaning.specs.Answers.{Answer, answer, answer_in}
 use Rattle.meaning.specs.Reader.{read_leaves}
 use Rattle.meaning.specs.Writer.{written}
 use Rattle.meaning.specs.Lister.{listing, list_answer, list_leaves}
@@ -42,15 +42,15 @@ use Rattle.promises.specs.CallContracts.{Reading, Writing, Listing}
 -- ==== The contracts
 
 -- what `reader::read` is proved to do, for any buffers that are lent to it
-pub reads : (κs : _) (a : _) (r : _) (s : _) → read.Learnt κs a r s → Reading a.0.now a.1.0.now a.1.1.0.now r s.1.1.0.now
+pub reads : (κs : _) (a : _) (r : _) (s : _) → read.Learnt κs a r s → Reading a.0.now a.1.0.now a.1.1.0.now (answer_in r) s.1.1.0.now
 reads κs a r s p = p
 
 -- `writer::write`
-pub writes : (κs : _) (a : _) (r : _) (s : _) → write.Learnt κs a r s → Writing a.0.now a.1.0.now a.1.1.0.now r s.1.1.0.now
+pub writes : (κs : _) (a : _) (r : _) (s : _) → write.Learnt κs a r s → Writing a.0.now a.1.0.now a.1.1.0.now (answer_in r) s.1.1.0.now
 writes κs a r s p = p
 
 -- and `lister::list`
-pub lists : (κs : _) (a : _) (r : _) (s : _) → list.Learnt κs a r s → Listing a.0.now a.1.0.now r s.1.0.now
+pub lists : (κs : _) (a : _) (r : _) (s : _) → list.Learnt κs a r s → Listing a.0.now a.1.0.now (answer_in r) s.1.0.now
 lists κs a r s p = p
 
 -- ==== Demand 3

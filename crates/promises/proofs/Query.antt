@@ -21,7 +21,7 @@ use Rattle.meaning.specs.Grants.{Grant, grants_of, grants_fine, terms_of, grante
 use Rattle.meaning.specs.Batch.{Cut}
 use Rattle.meaning.specs.State.{value_at, mark_at, well_formed, Write, all_writes}
 use Rattle.meaning.specs.Pair.{target_cell, looked_at, target_of, wrote_pair}
-use Rattle.meaning.specs.Answers.{Answer, answer}
+use Rattle.meaning.specs.Answers.{Answer, answer, answer_in}
 use Rattle.meaning.specs.Exported.{exported_which_grant}
 use Rattle.meaning.specs.Reasons.{HoldsAddress, QueryGives, admitted}
 use Rattle.meaning.specs.Fitter.{Inside, LowestOf, NoneOf, OfAddress, Stores, OfTarget}
@@ -43,7 +43,7 @@ use Rattle.promises.specs.CallContracts.{Reading, Querying, Testing, QueryingByt
 -- ==== The contracts
 
 -- what `query::which_grant` is proved to do, for any buffers that are lent to it and any number,
-pub queries : (κs : _) (a : _) (r : _) (s : _) → which_grant.Learnt κs a r s → Querying a.0.now a.1.0.now a.1.1.0.0 r
+pub queries : (κs : _) (a : _) (r : _) (s : _) → which_grant.Learnt κs a r s → Querying a.0.now a.1.0.now a.1.1.0.0 (answer_in r)
 queries κs a r s p = p
 
 -- and `irangelda_which_grant`

@@ -56,9 +56,9 @@ one_reason r r' e = sym (named_again r) ∙ ap named e ∙ named_again r'
 
 -- so are verdicts,
 pub one_verdict : (v v' : Result (Unit {0}) Reason) → reason_in v ≡ reason_in v' → v ≡ v'
-one_verdict (Ok tt) (Ok tt) e = refl
-one_verdict (Ok tt) (Err r) e = absurd (refused r (sym e))
-one_verdict (Err r) (Ok tt) e = absurd (refused r e)
+one_verdict (Ok a) (Ok b) e = refl
+one_verdict (Ok a) (Err r) e = absurd (refused r (sym e))
+one_verdict (Err r) (Ok a) e = absurd (refused r e)
 one_verdict (Err r) (Err r') e = ap Err (one_reason r r' e)
 
 -- answers,
@@ -72,8 +72,15 @@ one_result (Err f) (Ok p) e = absurd (refused f.reason (ap (λ (a : Answer). a.r
 one_result (Err f) (Err f') e = ap Err (one_refusal f f' (ap (λ (a : Answer). a.reason) e) (ap (λ (a : Answer). a.place) e))
 
 -- and what a word is told
+abbrev taken : ℕ → ℕ → Cell → ℕ → Taken
+taken l u c v = record { left = l; under = u; cell = c; value = v }
+
 one_taken : (t t' : Taken) → t.left ≡ t'.left → t.under ≡ t'.under → t.cell ≡ t'.cell → t.value ≡ t'.value → t ≡ t'
-one_taken t t' l u c v = cc
+one_taken t t' l u c v =
+    ap (λ (x : ℕ). taken x t.under t.cell t.value) l
+    ∙ ap (λ (x : ℕ). taken t'.left x t.cell t.value) u
+    ∙ ap (λ (x : Cell). taken t'.left t'.under x t.value) c
+    ∙ ap (λ (x : ℕ). taken t'.left t'.under t'.cell x) v
 
 pub one_asked : (x x' : Result Taken Reason) → asked_as x ≡ asked_as x' → x ≡ x'
 one_asked (Ok t) (Ok t') e =

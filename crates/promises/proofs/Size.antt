@@ -15,7 +15,7 @@ use Rattle.meaning.specs.Registers.{cells, cell}
 use Rattle.meaning.specs.Grants.{grants_fine, terms_of}
 use Rattle.meaning.specs.State.{well_formed}
 use Rattle.meaning.specs.Pair.{Reached}
-use Rattle.meaning.specs.Answers.{Answer, bad_buffer, success, answer, number_of, provided}
+use Rattle.meaning.specs.Answers.{Answer, bad_buffer, success, answer, number_of, provided, answer_in}
 use Rattle.meaning.specs.Writer.{written, size_of, in_room}
 use Rattle.meaning.specs.Exported.{word_buffer_fine, exported_size, exported_write, exported_write_leaves}
 use Rattle.meaning.specs.Reasons.{Writable, SizeGives, WriterGives}
@@ -32,7 +32,7 @@ use Rattle.promises.specs.CallContracts.{Sizing, Writing, size_first, SizingByte
 -- ==== The contracts
 
 -- what `writer::size` is proved to do, for any buffers that are lent to it,
-pub sizes : (κs : _) (a : _) (r : _) (s : _) → size.Learnt κs a r s → Sizing a.0.now a.1.0.now r
+pub sizes : (κs : _) (a : _) (r : _) (s : _) → size.Learnt κs a r s → Sizing a.0.now a.1.0.now (answer_in r)
 sizes κs a r s p = p
 
 -- and `irangelda_size`

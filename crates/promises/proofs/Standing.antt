@@ -24,8 +24,7 @@ use Rattle.meaning.specs.Reader.{judge}
 use Rattle.meaning.specs.Engine.{most_fed}
 use Rattle.meaning.proofs.Table.{Of}
 use Rattle.meaning.proofs.EachWrite.{Wide, found_3d, found_video}
-use Rattle.asking.specs.declared.Asked.{Asked}
-use Rattle.asking.specs.Asked.{kind_from, cell_of, value_of, passed, unless_stopped, asked_in}
+use Rattle.asking.specs.Asked.{Asked, kind_from, cell_of, value_of, passed, unless_stopped, asked_in}
 use Rattle.asking.proofs.Next.{next_again}
 use Rattle.feeding.specs.Steps as steps
 use Rattle.engine.specs.declared.Engine.{Engine}

@@ -10,7 +10,9 @@ ghost use Rattle.meaning.specs.Reader.{read_answer, read_leaves};
 ghost use Rattle.pair.specs.Marks.{cleared};
 
 use grants::{BOUNDS, IN_MEMORY_1, Kept};
-use meaning::{Answer, CELLS, Cell, LOCATION_CELL, MOST_GRANTS, Reason, STATE_WORDS, State, TARGET_CELL};
+use meaning::{
+    Answer, CELLS, Cell, LOCATION_CELL, MOST_GRANTS, Reason, STATE_WORDS, State, TARGET_CELL,
+};
 
 // Clears the marks of the pair, so that those that come back tell what the batch wrote.
 fn clear_pair(own: &mut State)
