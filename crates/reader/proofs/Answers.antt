@@ -1,32 +1,32 @@
 -- The reader's answer and the bytes after it, by what its tests came to.
 -- Assumes nothing.
-use mathlib.Core.Path.{◌≡◌, refl, sym, ap, ◌∙◌}
-use mathlib.Core.Logic.{◌≢◌}
+use mathlib.Core.Path.{◌≡◌, sym, ap, ◌∙◌}
 use mathlib.Core.Bool.{Bool, true, false}
 use mathlib.Core.List.{List}
 use Prim.Native.Nat.{ℕ}
 use lib.Dec.{eqb}
 use lib.ListN.{length, get_or}
 use mir.Facts.{and_yes, eqb_yes}
-use borrow.Author.Tests.{ne_eqb}
-use Rattle.laws.specs.Lists.{over}
 use Rattle.laws.proofs.Tests.{holds_of}
+use Rattle.meaning.specs.declared.Reason.{Reason}
 use Rattle.meaning.specs.declared.Kind.TheVariants.{Setting}
-use Rattle.meaning.specs.Words.{words_of, bytes_of}
 use Rattle.meaning.specs.Grants.{Terms, terms_of, grants_fine}
 use Rattle.meaning.specs.State.{state_words, mark_at, well_formed, Write, apply_all}
 use Rattle.meaning.specs.Pair.{target_cell, location_cell, pair_kept}
 use Rattle.meaning.specs.Positions.{writes_of}
-use Rattle.meaning.specs.Answers.{Answer, bad_state, bad_grants, bad_pair, answer, settle}
-use Rattle.meaning.specs.Reader.{batch_answer, paired_answer, read_answer, read_leaves}
-use Rattle.grants.specs.declared.Part.{Part}
-use Rattle.grants.specs.Kept.{Keeps, Names, part_of}
-use Rattle.keeping.proofs.Keeping.{Lent, KeptFrom, names_after, kept_after, near_after}
+use Rattle.meaning.specs.Answers.{Answer, bad_state, bad_grants, bad_pair, success, answer, number}
+use Rattle.meaning.proofs.Refusals.{refused as no_success}
+use Rattle.meaning.specs.Reader.{batch_answer, read_answer, read_leaves}
+use Rattle.grants.specs.declared.Kept.{Kept}
+use Rattle.grants.specs.declared.RoleGrants.{RoleGrants}
+use Rattle.grants.specs.Kept.{Names, part_of}
+use Rattle.grants.specs.Held.{OfRole}
+use Rattle.keeping.proofs.Keeping.{Lent, KeptFrom, names_after, near_after}
 use Rattle.pair.specs.Marks.{cleared, restored}
-use Rattle.pair.specs.Judged.{kept_in, KnownLocal}
+use Rattle.pair.specs.Judged.{kept_by, KnownBy}
 use Rattle.pair.proofs.Marks.{cleared_length, restored_is, writes_low}
 use Rattle.pair.proofs.Ends.{kept_is, refused, bad, good, known_local}
-use Rattle.bodies.specs.Passes.{answer_of}
+use Rattle.bodies.specs.Passes.{Comes}
 use Rattle.packets.specs.Packets.{packets_from}
 use Rattle.packets.proofs.Packets.{answered, wrote, same_size}
 
@@ -35,91 +35,99 @@ pub whole : (st : List ℕ) → well_formed st ≡ true → length st ≡ state_
 unfolding well_formed
 whole st e = eqb_yes (and_yes (eqb (length st) state_words) _ (holds_of e)).0
 
--- ---- the answer and the bytes
+-- ---- before the batch is read
 
-module _ (batch grants bytes : List ℕ) where
-  abbrev st : List ℕ
-  st = words_of bytes
-
-  abbrev answer_is : Answer → Type 0
-  answer_is a = a ≡ read_answer (words_of batch) (words_of grants) st
-
-  abbrev leaves : Answer → List ℕ
-  leaves a = settle a (over (bytes_of (read_leaves (words_of batch) (words_of grants) st)) bytes) bytes
-
-  pub state_refused : well_formed st ≡ false → answer_is (answer bad_state 0) × (bytes ≡ leaves (answer bad_state 0))
+module _ (batch grants st : List ℕ) where
+  pub state_refused : well_formed st ≡ false → answer bad_state 0 ≡ read_answer batch grants st
   unfolding read_answer
-  state_refused e = rw e (refl, refl)
+  state_refused e = rw e
 
-  pub grants_refused : well_formed st ≡ true → grants_fine (words_of grants) ≡ false → answer_is (answer bad_grants 0) × (bytes ≡ leaves (answer bad_grants 0))
+  pub grants_refused : well_formed st ≡ true → grants_fine grants ≡ false → answer bad_grants 0 ≡ read_answer batch grants st
   unfolding read_answer
-  grants_refused e f = rw (e, f) (refl, refl)
+  grants_refused e f = rw (e, f)
 
-  -- the state is copied without the marks of the pair, the grants are kept, and the packets are read under whatever is kept so
-  module _ (e : well_formed st ≡ true) (f : grants_fine (words_of grants) ≡ true) {own : List ℕ} (made : own ≡ cleared st) (starts lasts numbers : List ℕ) {s l n b : List ℕ}
-      (lent : Lent starts lasts numbers) (kept : KeptFrom (words_of grants) starts lasts numbers s l n b) {a : Answer} {after : List ℕ}
-      (read : ((g : Terms) → Keeps g s l b → a ≡ answer_of (packets_from g 0 Setting 0 (words_of batch) own))
-      × ((g : Terms) → Keeps g s l b → after ≡ (packets_from g 0 Setting 0 (words_of batch) own).state)) where
-    abbrev g : Terms
-    g = terms_of (words_of grants)
+-- ---- once it is
 
-    abbrev writes : List Write
-    writes = writes_of (words_of batch)
+-- the packets are read on a copy of the state without the marks of the pair, under grants that are kept in the room for starts, lasts, numbers
+-- and bounds
+pub record ReadOn (batch grants st starts lasts numbers bounds : List ℕ) (a : Answer) (after : List ℕ) : Type 0 where
+  pub formed : well_formed st ≡ true
+  pub fine : grants_fine grants ≡ true
+  pub s : List ℕ
+  pub l : List ℕ
+  pub n : List ℕ
+  pub lent : Lent s l n
+  pub kept : KeptFrom grants s l n starts lasts numbers bounds
+  pub own : List ℕ
+  pub copied : own ≡ cleared st
+  pub read : Comes a after (packets_from (terms_of grants) 0 Setting 0 batch own)
 
-    ea : a ≡ answer_of (packets_from g 0 Setting 0 (words_of batch) own)
-    ea = read.0 _ (kept_after (words_of grants) starts lasts numbers lent f kept).0
+-- the target's grants are those that are kept there
+pub record Targets (q : RoleGrants) (s l n b : List ℕ) : Type 0 where
+  pub starts : q.starts.now ≡ s
+  pub lasts : q.lasts.now ≡ l
+  pub numbers : q.numbers.now ≡ n
+  pub part : q.part ≡ part_of b 1
 
-    el : after ≡ (packets_from g 0 Setting 0 (words_of batch) own).state
-    el = read.1 _ (kept_after (words_of grants) starts lasts numbers lent f kept).0
+pub targets : {k : Kept} {q : RoleGrants} → OfRole k 1 q → Targets q k.starts.now k.lasts.now k.numbers.now k.bounds.now
+targets o = record { starts = rw o.starts; lasts = rw o.lasts; numbers = rw o.numbers; part = o.part }
 
-    told : a ≡ batch_answer g (words_of batch)
-    told = ea ∙ answered g (words_of batch) own
+module _ {batch grants st starts lasts numbers bounds : List ℕ} {a : Answer} {after : List ℕ} (r : ReadOn batch grants st starts lasts numbers bounds a after) where
+  abbrev g : Terms
+  g = terms_of grants
 
-    pub own_size : length after ≡ state_words
-    own_size = ap length el ∙ same_size g 0 Setting 0 (words_of batch) own ∙ ap length made ∙ cleared_length st ∙ whole st e
+  abbrev writes : List Write
+  writes = writes_of batch
 
-    pub batch_refused : a.reason ≢ 0 → answer_is a × (bytes ≡ leaves a)
-    unfolding read_answer
-    batch_refused z = (rw (e, f) (refused g st (words_of batch) told z), rw (ne_eqb a.reason 0 z))
+  told : a ≡ batch_answer g batch
+  told = r.read.0 ∙ answered g batch r.own
 
-    module _ (z : a.reason ≡ 0) where
-      accepted : (batch_answer g (words_of batch)).reason ≡ 0
-      accepted = sym (ap (λ (x : Answer). x.reason) told) ∙ z
+  pub own_size : length after ≡ state_words
+  own_size = ap length r.read.1 ∙ same_size g 0 Setting 0 batch r.own ∙ ap length r.copied ∙ cleared_length st ∙ whole st r.formed
 
-      -- the copy behind the batch
-      written : after ≡ apply_all (cleared st) writes
-      written =
-          el ∙ wrote g (words_of batch) own (sym (ap (λ (x : Answer). x.reason) ea) ∙ z) ∙ ap (λ (x : List ℕ). apply_all x writes) made
+  pub batch_refused : (e : Reason) → a.reason ≡ number e → a ≡ read_answer batch grants st
+  unfolding read_answer
+  batch_refused e is = rw (r.formed, r.fine) (refused g st batch told (λ z. no_success e (sym is ∙ z)))
 
-      names : Names g s l n b
-      names = (names_after (words_of grants) starts lasts numbers lent f kept).0
+  -- no word is refused
+  module _ {p : ℕ} (z : a ≡ answer success p) where
+    fine : a.reason ≡ 0
+    fine = rw z
 
+    accepted : (batch_answer g batch).reason ≡ 0
+    accepted = sym (ap (λ (x : Answer). x.reason) told) ∙ fine
+
+    -- the copy behind the batch
+    written : after ≡ apply_all (cleared st) writes
+    written = r.read.1 ∙ wrote g batch r.own (sym (ap (λ (x : Answer). x.reason) r.read.0) ∙ fine) ∙ ap (λ (x : List ℕ). apply_all x writes) r.copied
+
+    names : Names g starts lasts numbers bounds
+    names = (names_after grants r.s r.l r.n r.lent r.fine r.kept).0
+
+    module _ {q : RoleGrants} (t : Targets q starts lasts numbers bounds) where
       -- where no grant is in memory 1, the words have been judged in memory 0
-      pub known : {part : Part} → part ≡ part_of b 1 → {k : Bool} → k ≡ eqb (get_or b 4 0) 0 → k ≡ true → KnownLocal s l n part after
-      known its is t =
-          rw (its, written)
-          (known_local (words_of grants) s l n b names
-          (near_after (words_of grants) starts lasts numbers lent f kept (eqb_yes (holds_of (sym is ∙ t)))) st (words_of batch) (whole st e) accepted)
+      pub known : {k : Bool} → k ≡ eqb (get_or bounds 4 0) 0 → k ≡ true → KnownBy q after
+      known is e =
+          rw (t.starts, t.lasts, t.numbers, t.part, written)
+          (known_local grants starts lasts numbers bounds names (near_after grants r.s r.l r.n r.lent r.fine r.kept (eqb_yes (holds_of (sym is ∙ e)))) st batch (whole st r.formed) accepted)
 
       -- by what is judged of the pair, from the marks that the state has
-      module _ {t o : ℕ} (first : t ≡ mark_at st target_cell) (second : o ≡ mark_at st location_cell) {part : Part} (its : part ≡ part_of b 1)
-          {r : Bool} (judged : r ≡ kept_in s l n part t o after) where
-        pair_kept_lem : r ≡ pair_kept g st writes
+      module _ {m o : ℕ} (first : m ≡ mark_at st target_cell) (second : o ≡ mark_at st location_cell) {b : Bool} (judged : b ≡ kept_by q m o after) where
+        pair_kept_lem : b ≡ pair_kept g st writes
         pair_kept_lem =
             judged
-            ∙ rw (first, second, its, written)
-            (kept_is (words_of grants) (holds_of f) s l n b names st (whole st e) writes (writes_low g (words_of batch) accepted))
+            ∙ rw (t.starts, t.lasts, t.numbers, t.part, first, second, written)
+            (kept_is grants (holds_of r.fine) starts lasts numbers bounds names st (whole st r.formed) writes (writes_low g batch accepted))
 
-        pub pair_refused : r ≡ false → answer_is (answer bad_pair a.place) × (bytes ≡ leaves (answer bad_pair a.place))
+        pub pair_refused : b ≡ false → answer bad_pair p ≡ read_answer batch grants st
         unfolding read_answer
-        pair_refused x = (rw (e, f) (bad g st (words_of batch) told z pair_kept_lem x), refl)
+        pair_refused x = rw (r.formed, r.fine) (rw z at (bad g st batch told fine pair_kept_lem x))
 
         -- the copy takes the state's place, its marks given back
-        pub batch_accepted : r ≡ true → {back : List ℕ} → back ≡ restored t o after → {left : List ℕ} → left ≡ over (bytes_of back) bytes
-            → answer_is a × (left ≡ leaves a)
-        unfolding read_answer read_leaves
-        batch_accepted x {back} given is =
-            let ends : a ≡ paired_answer g st (words_of batch) = good g st (words_of batch) told z pair_kept_lem x in
-            let made_of : back ≡ apply_all st writes =
-            given ∙ rw (first, second, written) (restored_is st (whole st e) writes (writes_low g (words_of batch) accepted)) in
-            (rw (e, f) ends, rw (e, f, ← ends, z, ← made_of) is)
+        pub accepts : b ≡ true → answer success p ≡ read_answer batch grants st
+        unfolding read_answer
+        accepts x = rw (r.formed, r.fine) (sym z ∙ good g st batch told fine pair_kept_lem x)
+
+        pub stores : b ≡ true → {back : List ℕ} → back ≡ restored m o after → back ≡ read_leaves batch grants st
+        unfolding read_leaves
+        stores x given = rw (← accepts x) (given ∙ rw (first, second, written) (restored_is st (whole st r.formed) writes (writes_low g batch accepted)))

@@ -15,6 +15,7 @@ use meaning::{
 };
 
 // Clears the marks of the pair, so that those that come back tell what the batch wrote.
+#[tactic(auto, unfolding(pair::specs::Marks::cleared))]
 fn clear_pair(own: &mut State)
     requires whole { length own.old ≡ state_words }
     ensures cleared { own.new ≡ cleared own.old }
@@ -24,7 +25,7 @@ fn clear_pair(own: &mut State)
 }
 
 // Reads a batch: 1 if the state is not well-formed, 2 if the grant list breaks its rules, then what the first bad word gives, or 10, or
-// 14 if the batch does not keep the pair; else 0 and the batch's length in words. The state is changed only if the whole batch is accepted;
+// 14 if the batch does not keep the pair; or else the batch's length in words. The state is changed only if the whole batch is accepted;
 // bytes past the last whole word of a buffer count for nothing.
 pub fn read(batch: &[u8], grants: &[u8], state: &mut [u8]) -> Answer
     ensures answer { answer_in result ≡ read_answer (words_of batch.now) (words_of grants.now) (words_of state.old) }
