@@ -1,7 +1,7 @@
 // How far a text goes along the lines that registers may have: for the place of a refusal.
 #![tactic(auto)]
 
-ghost use Rattle.std.specs.Prelude.{◌≡◌, ◌++◌, map, ◌+◌, ◌-◌, ◌<◌, ◌≤◌, max, length, drop, replicate};
+ghost use Rattle.std.specs.Prelude.{◌≡◌, ◌++◌, map, ◌+◌, ◌-◌, ◌<◌, ◌≤◌, length, drop, replicate};
 ghost use Rattle.meaning.specs.Registers.{cells, first_video, end_video};
 ghost use Rattle.meaning.specs.Text.{ascii};
 ghost use Rattle.meaning.specs.Lister.{digit};
@@ -12,6 +12,7 @@ ghost use Rattle.line_places.specs.Forms.{form_with};
 use meaning::{Cell, FIRST_VIDEO};
 
 // A digit of a name: 0 to 9, then a to f.
+#[tactic(auto, using(laws::proofs::Arms::tests), unfolding(meaning::specs::Lister::digit))]
 fn hex_digit(d: u32) -> u8
     requires small { d < 16 }
     ensures digit { result ≡ digit d }
@@ -81,28 +82,20 @@ fn agree(text: &[u8], at: usize, expected: &[u8]) -> usize
     requires inside { at ≤ length text.now }
     ensures bytes { result ≡ along (map fixed expected.now) (drop at text.now) }
 {
-    let mut i = 0;
-    while i < expected.len() {
-        if text.len() - at <= i {
+    for i in 0..expected.len() {
+        if text.len() - at <= i || text[at + i] != expected[i] {
             return i;
         }
-        if text[at + i] != expected[i] {
-            return i;
-        }
-        i += 1;
     }
-    i
+    expected.len()
 }
 
 // A hex digit, in lower case.
+#[tactic(auto, using(laws::proofs::Arms::spans), unfolding(meaning::specs::ListingReader::is_hex))]
 fn is_hex(x: u8) -> bool
     ensures hex { result ≡ is_hex x }
 {
-    match x {
-        48..=57 => true,
-        97..=102 => true,
-        _ => false,
-    }
+    matches!(x, b'0'..=b'9' | b'a'..=b'f')
 }
 
 // How many hex digits stand from `at` on, at most n.
@@ -110,17 +103,12 @@ fn hex_run(text: &[u8], at: usize, n: usize) -> usize
     requires inside { at ≤ length text.now }
     ensures digits { result ≡ along (replicate n any_digit) (drop at text.now) }
 {
-    let mut i = 0;
-    while i < n {
-        if text.len() - at <= i {
+    for i in 0..n {
+        if text.len() - at <= i || !is_hex(text[at + i]) {
             return i;
         }
-        if !is_hex(text[at + i]) {
-            return i;
-        }
-        i += 1;
     }
-    i
+    n
 }
 
 // How many bytes from `at` on follow a line: those before its free digits, n digits, and the line's end.
@@ -160,16 +148,6 @@ fn along_cell(text: &[u8], at: usize, c: usize) -> usize
     along_line(text, at, &before, 8)
 }
 
-// The longer of two ways.
-fn larger(a: usize, b: usize) -> usize
-    ensures larger { result ≡ max a b }
-{
-    if a < b {
-        return b;
-    }
-    a
-}
-
 // The most bytes from `at` on that follow the line of one cell from `first` to before `end`.
 pub fn furthest(text: &[u8], at: usize, first: usize, end: usize) -> usize
     requires inside { at ≤ length text.now }
@@ -177,10 +155,8 @@ pub fn furthest(text: &[u8], at: usize, first: usize, end: usize) -> usize
     ensures bytes { result ≡ furthest_of first (end - first) (drop at text.now) }
 {
     let mut far = 0;
-    let mut c = first;
-    while c < end {
-        far = larger(far, along_cell(text, at, c));
-        c += 1;
+    for c in first..end {
+        far = far.max(along_cell(text, at, c));
     }
     far
 }

@@ -34,6 +34,7 @@ const DIGIT_PAIRS: [u8; 512] = *b"\
     f0f1f2f3f4f5f6f7f8f9fafbfcfdfeff\
     ";
 
+#[tactic(auto, using(laws::proofs::Arms::tests), unfolding(meaning::specs::Lister::digit))]
 fn decimal_digit(d: usize) -> u8
     requires small { d < 10 }
     ensures digit { result ≡ digit d }
@@ -42,6 +43,7 @@ fn decimal_digit(d: usize) -> u8
 }
 
 // Known before the digits are stored, since a refusal must not have stored any.
+#[tactic(auto, using(laws::proofs::Arms::tests), unfolding(meaning::specs::Lister::decimal))]
 fn decimal_length(n: usize) -> usize
     ensures length { (result ≡ length (decimal n)) × (result ≤ 3) }
 {

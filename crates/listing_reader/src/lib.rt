@@ -75,6 +75,7 @@ fn read_lines(digits: &[u8; 256], text: &[u8], start: usize, n: usize, state: &m
 }
 
 // What a decimal digit counts.
+#[tactic(auto, using(laws::proofs::Arms::spans), unfolding(crate::specs::Counted::decimal_digit))]
 fn decimal_of(x: u8) -> Option<usize>
     ensures digit { result ≡ decimal_digit x }
 {
@@ -125,18 +126,12 @@ fn key_bytes(text: &[u8]) -> usize
     ensures bytes { result ≡ along head_form text.now }
 {
     let key = *b"cells=";
-    let mut i = 0;
-    // Kept a counted loop: with `for` the compiler unrolls it, and the lines behind the key then cost three instructions more each.
-    while i < 6 {
-        if text.len() <= i {
+    for i in 0..6 {
+        if text.len() <= i || text[i] != key[i] {
             return i;
         }
-        if text[i] != key[i] {
-            return i;
-        }
-        i += 1;
     }
-    i
+    6
 }
 
 // Reads a listing back, and tells the text's length: refused if the buffer of the state is not as long as a state, and at the first byte that
