@@ -1,15 +1,15 @@
 // What a call answers: how much it read or wrote, or why and where it refused.
 
-pub type Answer = Result<usize, Refusal>;
+pub(crate) type Answer = Result<usize, Refusal>;
 
 #[derive(Clone, Copy, PartialEq, Eq)]
-pub struct Refusal {
+pub(crate) struct Refusal {
     pub reason: Reason,
     pub place: usize,
 }
 
 #[derive(Clone, Copy, PartialEq, Eq)]
-pub enum Reason {
+pub(crate) enum Reason {
     BadState = 1,
     BadGrants = 2,
     NoOffset = 3,
@@ -29,7 +29,7 @@ pub enum Reason {
 }
 
 impl Reason {
-    pub fn at(self, place: usize) -> Refusal {
+    pub(crate) fn at(self, place: usize) -> Refusal {
         Refusal {
             reason: self,
             place,
@@ -37,12 +37,12 @@ impl Reason {
     }
 
     // An engine is refused at opening already.
-    pub fn is_at_opening(self) -> bool {
+    pub(crate) fn is_at_opening(self) -> bool {
         matches!(self, Reason::BadState | Reason::BadGrants)
     }
 
     // It speaks of one word of a batch.
-    pub fn is_of_word(self) -> bool {
+    pub(crate) fn is_of_word(self) -> bool {
         matches!(
             self,
             Reason::NoOffset
@@ -79,7 +79,7 @@ impl From<u32> for Reason {
 }
 
 // An answer as one number, as in the C call: the place times 256, and the reason.
-pub fn number(answer: Answer) -> u64 {
+pub(crate) fn number(answer: Answer) -> u64 {
     let (place, reason) = match answer {
         Ok(place) => (place, 0),
         Err(refusal) => (refusal.place, refusal.reason as u64),

@@ -1,18 +1,18 @@
 // The dice: every made-up thing follows from a seed, so that each run makes the same ones.
 
 #[derive(Clone, Copy)]
-pub struct Seed(pub(super) u32);
+pub(crate) struct Seed(pub(super) u32);
 
 impl Seed {
     // A throw: for each number another seed.
-    pub fn throw(self, throws: u32) -> Seed {
+    pub(crate) fn throw(self, throws: u32) -> Seed {
         let a = scrambled(self.0.wrapping_add(throws).wrapping_add(0x9e3779b9));
         let b = scrambled(a.wrapping_add(a << 7));
         Seed(scrambled(b.wrapping_add(b << 11)))
     }
 
     // One of so many numbers from 0, and 0 where there is none.
-    pub fn below(self, n: usize) -> usize {
+    pub(crate) fn below(self, n: usize) -> usize {
         (self.0 as usize).checked_rem(n).unwrap_or(0)
     }
 }

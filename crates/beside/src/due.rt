@@ -7,7 +7,7 @@ use crate::dice::Seed;
 const MOST: u32 = 0xffffffff;
 
 #[derive(Clone, Copy)]
-pub struct Due {
+pub(crate) struct Due {
     // What the reader answers on the whole batch.
     pub told: Answer,
     // How many words the engine has taken before.
@@ -16,7 +16,7 @@ pub struct Due {
 
 impl Due {
     // An engine that is nearly full has taken all but fewer than 32 of the most, and none if it was not opened.
-    pub fn nearly_full(told: Answer, seed: Seed) -> Due {
+    pub(crate) fn nearly_full(told: Answer, seed: Seed) -> Due {
         let taken = match told {
             Err(refusal) if refusal.reason.is_at_opening() => 0,
             _ => MOST - seed.0 % 32,
@@ -30,7 +30,7 @@ impl Due {
 
     // After so many words: the refusal at opening; that of a word among them, if there was room for that word; where there
     // is no room for them all, 23.
-    pub fn after(&self, fed: usize) -> Answer {
+    pub(crate) fn after(&self, fed: usize) -> Answer {
         let room = (MOST - self.taken) as usize;
         match self.told {
             Err(refusal) if refusal.reason.is_at_opening() => Err(refusal),
@@ -43,7 +43,7 @@ impl Due {
     }
 
     // At closing, when the whole batch of so many words has been fed.
-    pub fn closing(&self, fed: usize) -> Answer {
+    pub(crate) fn closing(&self, fed: usize) -> Answer {
         let place = self.after(fed)?;
         match self.told {
             Ok(_) => Ok(place),

@@ -8,7 +8,7 @@ use std::io;
 
 // Made-up cases.
 #[derive(Clone, Copy)]
-pub struct Family {
+pub(crate) struct Family {
     name: &'static str,
     seed: Seed,
     // Of 32 values in a batch so many are to be refused.
@@ -17,7 +17,7 @@ pub struct Family {
     cases: u32,
 }
 
-pub const FAMILIES: [Family; 8] = [
+pub(crate) const FAMILIES: [Family; 8] = [
     Family {
         name: "values-taken",
         seed: Seed(0),
@@ -81,7 +81,7 @@ fn second_word(words: &[u32]) -> Option<u32> {
 }
 
 impl Family {
-    pub fn run(&self, rt: &impl Print, beside: &mut Beside) -> io::Result<()> {
+    pub(crate) fn run(&self, rt: &impl Print, beside: &mut Beside) -> io::Result<()> {
         for number in 0..self.cases {
             self.check_case(beside, self.seed.throw(number))?;
         }
@@ -151,7 +151,7 @@ fn check_prefixes_and_bits(beside: &mut Beside, mut case: Case) -> Result<(), Al
 }
 
 // Batches with nothing in them that is refused, for the empty state.
-pub fn every_prefix_and_bit(rt: &impl Print, beside: &mut Beside) -> io::Result<()> {
+pub(crate) fn every_prefix_and_bit(rt: &impl Print, beside: &mut Beside) -> io::Result<()> {
     for number in 0..100 {
         let grants = Seed(1).throw(number);
         let batch = Seed(2).throw(number);

@@ -2,17 +2,17 @@
 use std::alloc::{AllocError, Global};
 
 #[derive(Clone, Copy)]
-pub struct Lists<'a> {
+pub(crate) struct Lists<'a> {
     pub batch: &'a [u32],
     pub grants: &'a [u32],
     pub state: &'a [u32],
 }
 
 // What stands in a buffer where no word was stored.
-pub const BLANK: u8 = 0x5a;
+pub(crate) const BLANK: u8 = 0x5a;
 
 // The words, the lowest byte of each first, and so many blank bytes behind them.
-pub fn bytes_of(alloc: Global, words: &[u32], blanks: usize) -> Result<Vec<u8>, AllocError> {
+pub(crate) fn bytes_of(alloc: Global, words: &[u32], blanks: usize) -> Result<Vec<u8>, AllocError> {
     let size = words.len().saturating_mul(4).saturating_add(blanks);
     let mut bytes = vec![in alloc; BLANK; size]?;
     let (stored, _) = bytes.as_chunks_mut::<4>();

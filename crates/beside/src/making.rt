@@ -1,6 +1,6 @@
 // Makes up cases, by dice.
-pub mod batch;
-pub mod case;
-pub mod grant;
-pub mod state;
-pub mod value;
+pub(crate) mod batch;
+pub(crate) mod case;
+pub(crate) mod grant;
+pub(crate) mod state;
+pub(crate) mod value;

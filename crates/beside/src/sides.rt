@@ -13,7 +13,7 @@ use std::alloc::{AllocError, Global};
 const MUCH_ROOM: usize = 4095;
 
 // What the second reader and the second writer make of what is handed in: the state that is left, and the words written.
-pub type Left = Result<Cells, Refusal>;
+pub(crate) type Left = Result<Cells, Refusal>;
 
 type Written = Result<Vec<u32>, Refusal>;
 
@@ -58,13 +58,13 @@ fn part(list: &[u8], blanks: usize) -> &[u8] {
 }
 
 #[derive(Drop)]
-pub struct Beside {
+pub(crate) struct Beside {
     pub alloc: Global,
     pub tally: Tally,
 }
 
 impl Beside {
-    pub fn new(alloc: Global) -> Beside {
+    pub(crate) fn new(alloc: Global) -> Beside {
         Beside {
             alloc,
             tally: Tally::new(alloc),
@@ -73,7 +73,7 @@ impl Beside {
 
     // The batch, read at once, and fed to two engines, one of them nearly full: how nearly, the second word and the size of
     // the state tell. Answers what the second reader does.
-    pub fn read(&mut self, lists: Lists, second_word: u32) -> Result<Left, AllocError> {
+    pub(crate) fn read(&mut self, lists: Lists, second_word: u32) -> Result<Left, AllocError> {
         let left = reading::read(self.alloc, lists)?;
         let lent = Lent::new(self.alloc, lists)?;
         let told = left.map(|_| lists.batch.len());
@@ -130,7 +130,7 @@ impl Beside {
 
     // The size, and the state written: in as much room as it tells, in one byte less and in one word more. Where the size
     // is refused for a cell, the room is around that cell's number; where no byte less is left, there is much room.
-    pub fn write_around(&mut self, state: &[u32], grants: &[u32]) -> Result<(), AllocError> {
+    pub(crate) fn write_around(&mut self, state: &[u32], grants: &[u32]) -> Result<(), AllocError> {
         let due = writing::write(self.alloc, state, grants)?;
         let lists = Lists {
             batch: &[],

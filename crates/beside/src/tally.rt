@@ -7,7 +7,7 @@ use std::{fmt, io};
 
 // What is asked, in the order of the columns of the reasons' table. The size is counted with the writes.
 #[derive(Clone, Copy)]
-pub enum Call {
+pub(crate) enum Call {
     Read,
     Write,
     Feed,
@@ -61,7 +61,7 @@ impl fmt::Display for Difference {
 const TOLD: u64 = 5;
 
 #[derive(Drop)]
-pub struct Tally {
+pub(crate) struct Tally {
     calls: u64,
     feeds: u64,
     differences: u64,
@@ -73,7 +73,7 @@ pub struct Tally {
 }
 
 impl Tally {
-    pub fn new(alloc: Global) -> Tally {
+    pub(crate) fn new(alloc: Global) -> Tally {
         Tally {
             calls: 0,
             feeds: 0,
@@ -86,7 +86,7 @@ impl Tally {
     }
 
     // Counts an answer of the first one beside what the second says. They agree if the buffers are the same too.
-    pub fn compare(
+    pub(crate) fn compare(
         &mut self,
         call: Call,
         first: Answer,
@@ -129,7 +129,7 @@ impl Tally {
     }
 
     // Counts a made-up value for a cell: as taken, or by reason 7, 8 or 9.
-    pub fn count_value(&mut self, cell: Cell, judged: Result<(), Reason>) {
+    pub(crate) fn count_value(&mut self, cell: Cell, judged: Result<(), Reason>) {
         let column = match judged {
             Err(Reason::NotClear) => 1,
             Err(Reason::BadValue) => 2,
@@ -142,7 +142,7 @@ impl Tally {
     }
 
     // Ends a family: its lines, and its counts from 0 again.
-    pub fn end_family(&mut self, rt: &impl Print, name: &str) -> io::Result<()> {
+    pub(crate) fn end_family(&mut self, rt: &impl Print, name: &str) -> io::Result<()> {
         for difference in &self.noted {
             println!(rt; "{difference}")?;
         }
@@ -157,7 +157,7 @@ impl Tally {
         )
     }
 
-    pub fn tell(&self, rt: &impl Print) -> io::Result<()> {
+    pub(crate) fn tell(&self, rt: &impl Print) -> io::Result<()> {
         rt.println(
             "reasons 0 to 12, 14 and 23, a line each: reads, writes with sizes, openings and words fed, closings",
         )?;

@@ -113,7 +113,7 @@ impl Maker<'_> {
 }
 
 // A batch of some packets, in which of 32 values so many are to be refused. Its values are counted.
-pub fn some_batch(
+pub(crate) fn some_batch(
     alloc: Global,
     tally: &mut Tally,
     grants: Grants,

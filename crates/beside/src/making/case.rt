@@ -11,7 +11,7 @@ use crate::tally::Tally;
 use std::alloc::{AllocError, Global};
 
 #[derive(Clone, Copy)]
-pub enum List {
+pub(crate) enum List {
     Batch,
     Grants,
     State,
@@ -19,13 +19,13 @@ pub enum List {
 
 // What is done to a list.
 #[derive(Clone, Copy)]
-pub enum Damage {
+pub(crate) enum Damage {
     Changed(List),
     Cut(List),
 }
 
 #[derive(Drop)]
-pub struct Case {
+pub(crate) struct Case {
     pub batch: Vec<u32>,
     pub grants: Vec<u32>,
     pub state: Vec<u32>,
@@ -33,7 +33,7 @@ pub struct Case {
 
 impl Case {
     // A case in which of 32 values so many are to be refused.
-    pub fn some(
+    pub(crate) fn some(
         alloc: Global,
         tally: &mut Tally,
         refused: u32,
@@ -52,7 +52,7 @@ impl Case {
     }
 
     // A batch with nothing in it that is refused, for the empty state.
-    pub fn taken(
+    pub(crate) fn taken(
         alloc: Global,
         tally: &mut Tally,
         grants: Seed,
@@ -68,7 +68,7 @@ impl Case {
         })
     }
 
-    pub fn lists(&self) -> Lists<'_> {
+    pub(crate) fn lists(&self) -> Lists<'_> {
         Lists {
             batch: &self.batch,
             grants: &self.grants,
@@ -84,7 +84,7 @@ impl Case {
         }
     }
 
-    pub fn damage(&mut self, damage: Damage, seed: Seed) {
+    pub(crate) fn damage(&mut self, damage: Damage, seed: Seed) {
         match damage {
             Damage::Changed(list) => change_word(self.list(list), seed),
             Damage::Cut(list) => cut(self.list(list), seed),
@@ -117,7 +117,7 @@ fn changed(word: u32, before: u32, seed: u32) -> u32 {
 }
 
 // Changes some word.
-pub fn change_word(words: &mut [u32], seed: Seed) {
+pub(crate) fn change_word(words: &mut [u32], seed: Seed) {
     let place = seed.throw(1).below(words.len());
     let before = match place.checked_sub(1) {
         Some(before) => words.get(before).copied().unwrap_or(0),

@@ -29,7 +29,7 @@ fn how_many(seed: Seed) -> u32 {
     }
 }
 
-pub fn some_grants(alloc: Global, seed: Seed) -> Result<Vec<u32>, AllocError> {
+pub(crate) fn some_grants(alloc: Global, seed: Seed) -> Result<Vec<u32>, AllocError> {
     let mut grants = Vec::new(alloc);
     for number in 0..how_many(seed) {
         grants.extend_from_slice(&some_grant(number, seed.throw(number)))?;

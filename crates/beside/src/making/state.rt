@@ -7,7 +7,7 @@ use crate::second::granted::Grants;
 use crate::second::held::Cells;
 
 // A state, often the empty one: else of each eight cells some six are marked, with any values.
-pub fn some_cells(seed: Seed) -> Cells {
+pub(crate) fn some_cells(seed: Seed) -> Cells {
     let mut cells = Cells::EMPTY;
     let share = seed.0 % 8 / 5 * 6;
     for (number, cell) in (0..).zip((0..Cell::COUNT).filter_map(Cell::new)) {
@@ -42,7 +42,7 @@ fn some_location(held: Option<u32>, seed: Seed) -> Option<u32> {
 }
 
 // Makes up the pair of a state.
-pub fn make_pair(cells: &mut Cells, grants: Grants, seed: Seed) {
+pub(crate) fn make_pair(cells: &mut Cells, grants: Grants, seed: Seed) {
     let target = some_target(cells.get(Cell::TARGET), grants, seed);
     let location = some_location(cells.get(Cell::LOCATION), seed);
     cells.set(Cell::TARGET, target);

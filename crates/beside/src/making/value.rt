@@ -7,7 +7,7 @@ use crate::second::granted::Grants;
 use crate::second::table::Role;
 
 // A word of whose bits about a half, a quarter or an eighth are set.
-pub fn some_bits(seed: Seed) -> u32 {
+pub(crate) fn some_bits(seed: Seed) -> u32 {
     let bits = seed.throw(1).0;
     match seed.0 % 4 {
         0 => bits,
@@ -17,7 +17,7 @@ pub fn some_bits(seed: Seed) -> u32 {
 }
 
 // A step off, or none.
-pub fn moved(address: u32, seed: u32) -> u32 {
+pub(crate) fn moved(address: u32, seed: u32) -> u32 {
     match seed % 8 {
         0 => address.wrapping_add(1),
         1 => address.wrapping_sub(1),
@@ -59,7 +59,7 @@ fn any_value(grants: Grants, cell: Cell, wanted: Option<Reason>, seed: Seed) -> 
 }
 
 // A value that the register refuses for that reason, or with none takes: if one turns up in some throws.
-pub fn some_value(grants: Grants, cell: Cell, wanted: Option<Reason>, seed: Seed) -> u32 {
+pub(crate) fn some_value(grants: Grants, cell: Cell, wanted: Option<Reason>, seed: Seed) -> u32 {
     (0..16)
         .map(|throws| any_value(grants, cell, wanted, seed.throw(throws)))
         .find(|value| cell.judge(*value, grants).err() == wanted)

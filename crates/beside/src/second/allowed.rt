@@ -3,7 +3,7 @@ use super::table::{Role, Rule};
 
 impl Rule {
     // Whether a value with no bit set that must be clear may be stored.
-    pub fn allows(self, v: u32) -> bool {
+    pub(crate) fn allows(self, v: u32) -> bool {
         match self {
             Rule::Size => v >> 12 & 0x7ff <= 1024 && v & 0x7ff <= 1024,
             Rule::Location => v >> 20 & 3 <= 1,
@@ -18,7 +18,7 @@ impl Rule {
     }
 
     // The role of the address that a value holds, if it holds one.
-    pub fn role(self) -> Option<Role> {
+    pub(crate) fn role(self) -> Option<Role> {
         match self {
             Rule::Target => Some(Role::Target),
             Rule::Scaler(role) => Some(role),
@@ -29,7 +29,7 @@ impl Rule {
 
 impl Role {
     // The address in a value, as a whole number: a value of more than 24 bits holds one past 2^32 for the target.
-    pub fn address_in(self, v: u32) -> u64 {
+    pub(crate) fn address_in(self, v: u32) -> u64 {
         match self {
             Role::Target => (v as u64) << 8,
             Role::FirstScaler | Role::SecondScaler => v as u64 & 0x1ffffff0,

@@ -6,23 +6,23 @@ use super::table::{Name, REGISTERS, Register};
 use crate::answer::Reason;
 
 #[derive(Clone, Copy, PartialEq, Eq)]
-pub struct Cell {
+pub(crate) struct Cell {
     number: usize,
     ghost listed: { number < 101 },
 }
 
 // The offset of the packets for 3D registers.
-pub const DRAWING: u32 = 0x043c;
+pub(crate) const DRAWING: u32 = 0x043c;
 
 impl Cell {
-    pub const COUNT: usize = 101;
+    pub(crate) const COUNT: usize = 101;
 
     // The pair: the target's address, and its location.
-    pub const TARGET: Cell = Cell { number: 1 };
+    pub(crate) const TARGET: Cell = Cell { number: 1 };
 
-    pub const LOCATION: Cell = Cell { number: 2 };
+    pub(crate) const LOCATION: Cell = Cell { number: 2 };
 
-    pub fn new(number: usize) -> Option<Cell> {
+    pub(crate) fn new(number: usize) -> Option<Cell> {
         if number < 101 {
             Some(Cell { number })
         } else {
@@ -31,31 +31,31 @@ impl Cell {
     }
 
     // That of the register with the name.
-    pub fn named(name: Name) -> Option<Cell> {
+    pub(crate) fn named(name: Name) -> Option<Cell> {
         REGISTERS
             .iter()
             .position(|register| register.name == name)
             .and_then(Cell::new)
     }
 
-    pub fn number(self) -> usize {
+    pub(crate) fn number(self) -> usize {
         self.number
     }
 
-    pub fn register(self) -> &'static Register {
+    pub(crate) fn register(self) -> &'static Register {
         &REGISTERS[self.number]
     }
 
-    pub fn is_video(self) -> bool {
+    pub(crate) fn is_video(self) -> bool {
         matches!(self.register().name, Name::Video(_))
     }
 
-    pub fn is_of_pair(self) -> bool {
+    pub(crate) fn is_of_pair(self) -> bool {
         self == Cell::TARGET || self == Cell::LOCATION
     }
 
     // The value in a word that is for the cell: before that of a 3D register stands its sub-address.
-    pub fn value_in(self, word: u32) -> u32 {
+    pub(crate) fn value_in(self, word: u32) -> u32 {
         match self.register().name {
             Name::Drawing { .. } => word & 0xffffff,
             Name::Video(_) => word,
@@ -63,7 +63,7 @@ impl Cell {
     }
 
     // The word for a value.
-    pub fn word(self, value: u32) -> u32 {
+    pub(crate) fn word(self, value: u32) -> u32 {
         match self.register().name {
             Name::Drawing { sub_address, .. } => (sub_address as u32) << 24 | value,
             Name::Video(_) => value,
@@ -71,7 +71,7 @@ impl Cell {
     }
 
     // The header of a packet with so many values, that begins at the cell.
-    pub fn header(self, values: u32) -> u32 {
+    pub(crate) fn header(self, values: u32) -> u32 {
         match self.register().name {
             Name::Drawing { .. } => values.wrapping_add(1) << 16 | DRAWING,
             Name::Video(offset) => values << 16 | offset,
@@ -79,7 +79,7 @@ impl Cell {
     }
 
     // The setting of the cell's packet: one for a video register has none.
-    pub fn setting(self) -> Option<u32> {
+    pub(crate) fn setting(self) -> Option<u32> {
         match self.register().name {
             Name::Drawing { kind, sub_type, .. } => {
                 Some(u32::from_le_bytes([0, 0, kind, sub_type]))
@@ -89,7 +89,7 @@ impl Cell {
     }
 
     // Whether its register takes the value; else 7, 8 or 9.
-    pub fn judge(self, value: u32, grants: Grants) -> Result<(), Reason> {
+    pub(crate) fn judge(self, value: u32, grants: Grants) -> Result<(), Reason> {
         let register = self.register();
         if value & register.clear != 0 {
             return Err(Reason::NotClear);

@@ -2,14 +2,14 @@
 use super::table::Role;
 
 #[derive(Clone, Copy, PartialEq, Eq)]
-pub enum Memory {
+pub(crate) enum Memory {
     First,
     Second,
 }
 
 impl Memory {
     // The memory that a location names: none for 2 and 3.
-    pub fn named(location: u32) -> Option<Memory> {
+    pub(crate) fn named(location: u32) -> Option<Memory> {
         match location >> 20 & 3 {
             0 => Some(Memory::First),
             1 => Some(Memory::Second),
@@ -58,11 +58,11 @@ impl Grant {
 
 // The words of grants, which stand five words apart.
 #[derive(Clone, Copy)]
-pub struct Grants<'a>(pub &'a [u32]);
+pub(crate) struct Grants<'a>(pub &'a [u32]);
 
 impl Grants<'_> {
     // Words past the last whole grant, and a 65th, break the rules.
-    pub fn are_fine(&self) -> bool {
+    pub(crate) fn are_fine(&self) -> bool {
         self.0.len() <= 320 && self.0.chunks(5).all(|words| Grant::parse(words).is_some())
     }
 
@@ -76,12 +76,12 @@ impl Grants<'_> {
     }
 
     // Some grant of the role covers the address, in either memory.
-    pub fn reach(&self, role: Role, address: u64) -> bool {
+    pub(crate) fn reach(&self, role: Role, address: u64) -> bool {
         self.any(|grant| grant.covers(role, address))
     }
 
     // Some grant of the target covers the address in that memory.
-    pub fn reach_target_in(&self, memory: Memory, address: u64) -> bool {
+    pub(crate) fn reach_target_in(&self, memory: Memory, address: u64) -> bool {
         self.any(|grant| grant.memory == memory && grant.covers(Role::Target, address))
     }
 }

@@ -4,16 +4,16 @@ use super::granted::{Grants, Memory};
 use super::table::Role;
 
 #[derive(Clone, Copy)]
-pub struct Cells([Option<u32>; 101]);
+pub(crate) struct Cells([Option<u32>; 101]);
 
 // The words of a state: the values, then the marks.
-pub type StateWords = [u32; 202];
+pub(crate) type StateWords = [u32; 202];
 
 impl Cells {
-    pub const EMPTY: Cells = Cells([None; 101]);
+    pub(crate) const EMPTY: Cells = Cells([None; 101]);
 
     // The state of those words, if they are well-formed.
-    pub fn parse(words: &[u32]) -> Option<Cells> {
+    pub(crate) fn parse(words: &[u32]) -> Option<Cells> {
         if words.len() != 202 {
             return None;
         }
@@ -29,7 +29,7 @@ impl Cells {
         Some(Cells(cells))
     }
 
-    pub fn words(&self) -> StateWords {
+    pub(crate) fn words(&self) -> StateWords {
         let mut words = [0; 202];
         let (values, marks) = words.split_at_mut(101);
         for (cell, (value, mark)) in self.0.iter().zip(values.iter_mut().zip(marks)) {
@@ -41,11 +41,11 @@ impl Cells {
         words
     }
 
-    pub fn get(&self, cell: Cell) -> Option<u32> {
+    pub(crate) fn get(&self, cell: Cell) -> Option<u32> {
         self.0.get(cell.number()).copied().flatten()
     }
 
-    pub fn set(&mut self, cell: Cell, value: Option<u32>) {
+    pub(crate) fn set(&mut self, cell: Cell, value: Option<u32>) {
         if let Some(held) = self.0.get_mut(cell.number()) {
             *held = value;
         }
@@ -53,7 +53,7 @@ impl Cells {
 
     // Cell 1 is not marked, or its address is granted in the memory that cell 2 names. A cell that is not marked names
     // the first memory.
-    pub fn pair_is_fine(&self, grants: Grants) -> bool {
+    pub(crate) fn pair_is_fine(&self, grants: Grants) -> bool {
         let Some(target) = self.get(Cell::TARGET) else {
             return true;
         };

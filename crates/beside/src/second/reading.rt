@@ -174,7 +174,7 @@ impl<'a> Noted<'a> {
 }
 
 // A state and grants that keep their rules; else 1 or 2.
-pub fn open<'a>(state: &[u32], grants: &'a [u32]) -> Result<(Cells, Grants<'a>), Refusal> {
+pub(crate) fn open<'a>(state: &[u32], grants: &'a [u32]) -> Result<(Cells, Grants<'a>), Refusal> {
     let cells = Cells::parse(state).ok_or(Reason::BadState.at(0))?;
     let grants = Grants(grants);
     if !grants.are_fine() {
@@ -184,7 +184,7 @@ pub fn open<'a>(state: &[u32], grants: &'a [u32]) -> Result<(Cells, Grants<'a>),
 }
 
 // The state that the batch leaves, unless it is refused.
-pub fn read(alloc: Global, lists: Lists) -> Result<Result<Cells, Refusal>, AllocError> {
+pub(crate) fn read(alloc: Global, lists: Lists) -> Result<Result<Cells, Refusal>, AllocError> {
     let noted = Noted::new(alloc, lists.batch)?;
     Ok(noted.read(lists.grants, lists.state))
 }

@@ -2,7 +2,7 @@
 
 // Whose memory an address stands in.
 #[derive(Clone, Copy, PartialEq, Eq)]
-pub enum Role {
+pub(crate) enum Role {
     Target = 1,
     FirstScaler = 2,
     SecondScaler = 3,
@@ -10,7 +10,7 @@ pub enum Role {
 
 // A 3D register is named by type, sub-type and sub-address, a video register by its offset.
 #[derive(Clone, Copy, PartialEq, Eq)]
-pub enum Name {
+pub(crate) enum Name {
     Drawing {
         kind: u8,
         sub_type: u8,
@@ -21,7 +21,7 @@ pub enum Name {
 
 // What a register takes of the values that have no bit set that must be clear.
 #[derive(Clone, Copy)]
-pub enum Rule {
+pub(crate) enum Rule {
     Any,
     // Two sizes.
     Size,
@@ -44,7 +44,7 @@ pub enum Rule {
 }
 
 #[derive(Clone, Copy)]
-pub struct Register {
+pub(crate) struct Register {
     pub name: Name,
     // The bits that must be clear.
     pub clear: u32,

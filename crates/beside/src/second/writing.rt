@@ -85,7 +85,7 @@ fn words(alloc: Global, cells: &Cells) -> Result<Vec<u32>, AllocError> {
 }
 
 // The words that the state is written as, unless it is refused.
-pub fn write(
+pub(crate) fn write(
     alloc: Global,
     state: &[u32],
     grants: &[u32],
