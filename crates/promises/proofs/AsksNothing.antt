@@ -2,7 +2,7 @@
 -- something, which spares a test at run time: their line says what, exactly, and their callers are proved to keep to it.
 -- What a contract asks is taken as its callers read it: NAME.Asked, of lifetimes and arguments.
 -- Assumes nothing.
-use mathlib.Core.Path.{◌≡◌}
+use mathlib.Core.Path.{◌≡◌, refl, subst}
 use mathlib.Core.Bool.{true}
 use mathlib.Core.Logic.{◌↔◌}
 use Prim.Native.Nat.{◌+◌, ◌-◌, ◌/◌, ◌≤◌, ◌<◌, ◌^◌}
@@ -10,9 +10,13 @@ use lib.Dec.{T}
 use lib.ListN.{length}
 use Rattle.meaning.specs.Words.{words_of}
 use Rattle.meaning.specs.Registers.{cells, first_video, end_video, sections_3d}
-use Rattle.meaning.specs.Grants.{grants_of, grants_fine}
+use Rattle.meaning.specs.Grants.{most_grants, grants_of, grants_fine}
 use Rattle.meaning.specs.State.{state_words, marked, well_formed}
 use Rattle.meaning.specs.Writer.{written, need_among}
+use Rattle.grants.specs.declared.Part.{Part}
+use Rattle.grants.specs.declared.Kept.{Kept}
+use Rattle.grants.specs.declared.RoleGrants.{RoleGrants}
+use Rattle.grants.specs.Kept.{Bounded}
 use Rattle.keeping.specs.Keeping.{no_bounds, beginnings}
 use Rattle.pair.specs.Judged.{KnownBy}
 use Rattle.rows_video.specs.Scalers.{IsScaler}
@@ -255,6 +259,22 @@ pub offset_of_asks : AsksExactly offset_of.Asked (λ _ (cell, _). (first_video �
 offset_of_asks κs a = asks_this
 
 -- ---- grants
+
+-- What a lent value of kept grants asks, of whoever makes it: those of a role that their part lies inside the room of the arrays, and no more,
+pub role_grants_ask : (starts lasts numbers : _) (part : Part)
+    → ((r : RoleGrants) × ((r.starts ≡ starts) × ((r.lasts ≡ lasts) × ((r.numbers ≡ numbers) × (r.part ≡ part))))) ↔ (part.to ≤ most_grants)
+role_grants_ask s l n p = (
+  λ (r, (_, (_, (_, same)))). subst (λ (q : Part). q.to ≤ most_grants) same r.inside,
+  λ inside. (record { starts = s; lasts = l; numbers = n; part = p; inside = inside }, (refl, (refl, (refl, refl)))),
+)
+
+-- and those of all roles that each part does
+pub kept_asks : (starts lasts numbers bounds : _)
+    → ((k : Kept) × ((k.starts ≡ starts) × ((k.lasts ≡ lasts) × ((k.numbers ≡ numbers) × (k.bounds ≡ bounds))))) ↔ Bounded bounds.now
+kept_asks s l n b = (
+  λ (k, (_, (_, (_, same)))). subst (λ c. Bounded c.now) same k.bounded,
+  λ bounded. (record { starts = s; lasts = l; numbers = n; bounds = b; bounded = bounded }, (refl, (refl, (refl, refl)))),
+)
 
 pub part_by_asks : AsksExactly part_by.Asked (λ _ (_, (role, _)). role < 4)
 part_by_asks κs a = asks_this

@@ -17,7 +17,7 @@ use Rattle.grants.specs.Held.{IsRole, IsKept}
 use Rattle.grants.proofs.Keeping.{part_some, kept_some}
 use Rattle.judging.specs.declared.Judged.{Judged}
 use Rattle.engine.specs.declared.Closed.{Closed}
-use Rattle.promises.proofs.Results.{one_verdict, one_result, one_asked}
+use Rattle.promises.proofs.Results.{one_verdict, one_result, one_asked, one_role}
 use Rattle.rows_video.specs.Scalers.{first}
 use Rattle.rows_video.proofs.Scalers.{the_scaler}
 use Rattle.meaning.proofs.Reason.at.Reads as at
@@ -205,10 +205,9 @@ marked_between_one κs a r r' s s' p q = one_answer p q
 pub part_by_one : Determined part_by.Learnt
 part_by_one κs a r r' s s' p q = one_answer p q
 
--- all that there is of it at run time
-pub part_of_one : (κs : _) (a : _) (r r' : _) (s s' : _) → part_of.Learnt κs a r s → part_of.Learnt κs a r' s'
-    → (r.starts ≡ r'.starts) × (r.lasts ≡ r'.lasts) × (r.numbers ≡ r'.numbers) × (r.part ≡ r'.part)
-part_of_one κs a r r' s s' p q = (one_answer p.starts q.starts, one_answer p.lasts q.lasts, one_answer p.numbers q.numbers, one_answer p.part q.part)
+pub part_of_one : Determined part_of.Learnt
+part_of_one κs a r r' s s' p q =
+    one_role r r' (one_answer p.starts q.starts) (one_answer p.lasts q.lasts) (one_answer p.numbers q.numbers) (one_answer p.part q.part)
 
 pub which_one : Determined which.Learnt
 which_one κs a r r' s s' p q = one_answer p q
@@ -433,9 +432,9 @@ read_packets_one κs a r r' s s' p q =
     (one_result r r' (one_answer (p.0 k.0 k.1) (q.0 k.0 k.1)), one_answer (p.1 k.0 k.1) (q.1 k.0 k.1))
 
 -- whatever an engine keeps keeps some grants
-pub byte_part_of_one : (κs : _) (a : _) (r r' : _) (s s' : _) → byte_part_of.Learnt κs a r s → byte_part_of.Learnt κs a r' s'
-    → (r.starts ≡ r'.starts) × (r.lasts ≡ r'.lasts) × (r.numbers ≡ r'.numbers) × (r.part ≡ r'.part)
-byte_part_of_one κs a r r' s s' p q = (one_answer p.starts q.starts, one_answer p.lasts q.lasts, one_answer p.numbers q.numbers, one_answer p.part q.part)
+pub byte_part_of_one : Determined byte_part_of.Learnt
+byte_part_of_one κs a r r' s s' p q =
+    one_role r r' (one_answer p.starts q.starts) (one_answer p.lasts q.lasts) (one_answer p.numbers q.numbers) (one_answer p.part q.part)
 
 pub ask_one : Determined ask.Learnt
 ask_one κs a r r' s s' p q =

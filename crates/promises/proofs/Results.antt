@@ -1,7 +1,9 @@
 -- A result is told by its number, and an answer by its reason and its place: so two results that tell the same are equal.
 -- Assumes nothing.
-use Rattle.std.specs.Prelude.{◌≡◌, ℕ, cond, eqb, Result, Ok, Err}
+use Rattle.std.specs.Prelude.{◌≡◌, ◌≤◌, ℕ, cond, eqb, Result, Ok, Err}
 use mathlib.Core.Path.{refl, sym, ap, ap₂, ◌∙◌}
+use mathlib.Core.HLevel.{is_prop→PathP}
+use native.Mathlib.Bridge.{le_prop}
 use native.Mathlib.Omega.{arith}
 use Rattle.meaning.specs.declared.Cell.{Cell}
 use Rattle.meaning.specs.declared.Reason.{Reason}
@@ -9,6 +11,8 @@ use Rattle.meaning.specs.declared.Reason.TheVariants as by
 use Rattle.meaning.specs.declared.Refusal.{Refusal}
 use Rattle.meaning.specs.Answers.{Answer, number, reason_in, answer_in}
 use Rattle.meaning.proofs.Refusals.{refused}
+use Rattle.meaning.specs.Grants.{most_grants}
+use Rattle.grants.specs.declared.RoleGrants.{RoleGrants}
 use Rattle.asking.specs.declared.Taken.{Taken}
 use Rattle.asking.specs.Asked.{Asked}
 use Rattle.asking.specs.Told.{asked_as}
@@ -88,3 +92,13 @@ one_asked (Ok t) (Ok t') e =
 one_asked (Ok t) (Err r) e = absurd (refused r (sym (ap (λ (a : Asked). a.reason) e)))
 one_asked (Err r) (Ok t) e = absurd (refused r (ap (λ (a : Asked). a.reason) e))
 one_asked (Err r) (Err r') e = ap Err (one_reason r r' (ap (λ (a : Asked). a.reason) e))
+
+-- kept grants of one role over the same arrays and the same part are one: that the part lies inside its room is one fact
+pub one_role : (r r' : RoleGrants) → r.starts ≡ r'.starts → r.lasts ≡ r'.lasts → r.numbers ≡ r'.numbers → r.part ≡ r'.part → r ≡ r'
+one_role r r' s l n p = λ i. record {
+  starts = s i;
+  lasts = l i;
+  numbers = n i;
+  part = p i;
+  inside = is_prop→PathP (λ j. (p j).to ≤ most_grants) (λ j. le_prop) r.inside r'.inside i;
+}
