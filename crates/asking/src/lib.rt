@@ -1,16 +1,16 @@
 // What a word is asked by its position, for words that come one at a time: the reader's own questions, and where the next word stands.
 #![tactic(auto)]
 
-ghost use Rattle.std.specs.Prelude.{◌≡◌, suc, ◌<◌, ◌^◌};
+ghost use Rattle.std.specs.Prelude.{◌≡◌, suc, ◌≤◌, ◌<◌, ◌^◌};
 ghost use Rattle.meaning.specs.declared.Kind.{Kind};
 ghost use Rattle.meaning.specs.declared.Kind.TheVariants as kinds;
 ghost use Rattle.meaning.specs.Words.{video_offset};
-ghost use Rattle.meaning.specs.Grants.{Terms};
+ghost use Rattle.meaning.specs.Grants.{Terms, most_grants};
 ghost use Rattle.meaning.specs.Answers.{reason_in};
 ghost use Rattle.grants.specs.Kept.{Keeps};
 ghost use Rattle.grants.specs.Held.{IsRole};
 ghost use Rattle.headers.specs.Told.{Leads};
-ghost use Rattle.asking.specs.Asked.{kind_from, capped, bound_for, moved_on, asked_in};
+ghost use Rattle.asking.specs.Asked.{kind_from, part_in, capped, bound_for, moved_on, asked_in};
 ghost use Rattle.asking.specs.Told.{OfRole, taken_of, asked_as};
 
 use grants::{BOUNDS, Numbers, Part, RoleGrants, Spans};
@@ -47,8 +47,20 @@ fn wide(byte: u8) -> usize
     byte as usize
 }
 
+// The part of a role. It ends where the room does, whatever the bytes are.
+pub fn part_in(bounds: &ByteBounds, role: usize) -> Part
+    requires role { role < 4 }
+    ensures part { result ≡ part_in bounds.now role }
+    ensures inside { result.to ≤ most_grants }
+{
+    Part {
+        from: wide(bounds[role]),
+        to: wide(bounds[4 + role]).min(MOST_GRANTS),
+    }
+}
+
 impl<'a> Stored<'a> {
-    // Those of a role. Their part ends where the room does, whatever the bytes are.
+    // Those of a role.
     pub fn part_of(&self, role: usize) -> RoleGrants<'a>
         requires role { role < 4 }
         ensures role { OfRole self.now role result }
@@ -57,10 +69,7 @@ impl<'a> Stored<'a> {
             starts: self.starts,
             lasts: self.lasts,
             numbers: self.numbers,
-            part: Part {
-                from: wide(self.bounds[role]),
-                to: wide(self.bounds[4 + role]).min(MOST_GRANTS),
-            },
+            part: part_in(self.bounds, role),
         }
     }
 }

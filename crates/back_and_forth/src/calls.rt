@@ -30,7 +30,9 @@ fn list_into(state: &[u8], out: &mut [u8]) -> Answer {
 pub(super) fn list(alloc: Global, state: &[u8]) -> Result<Vec<u8>, AllocError> {
     let mut text = vec![in alloc; 0; MOST_LISTED]?;
     let length = list_into(state, &mut text).unwrap_or(0);
-    let stays = text.iter().skip(length).all(|byte| *byte == 0);
+    // Kept: a fold over all that is behind, which is several times as quick as to stop at the first that has changed.
+    let behind = text.get(length..).unwrap_or(&[]);
+    let stays = behind.iter().fold(0, |changed, byte| changed | *byte) == 0;
     text.truncate(if stays { length } else { 0 });
     Ok(text)
 }

@@ -25,7 +25,8 @@ const MOST_BYTES: u64 = 65536;
 
 fn main(rt: HostRuntime) -> io::Result<()> {
     let mut readers = Readers::new(rt)?;
-    let mut page = Vec::new(rt.alloc());
+    // Kept: room for all of it at once, so that no room is left behind on the way.
+    let mut page = Vec::with_capacity(rt.alloc(), MOST_BYTES as usize)?;
     rt.stdin().take(MOST_BYTES).read_to_end(&mut page)?;
     readers.run_page(&page)?;
     readers.tally.tell_end()

@@ -38,17 +38,10 @@ pub(super) struct Listed {
 impl Listed {
     // The text stands in front of the room, and behind it all is as it was.
     pub(super) fn holds(&self, text: &[u8]) -> bool {
-        self.room
-            .strip_prefix(text)
-            .is_some_and(|behind| behind.iter().all(|byte| *byte == FILLER))
+        // Kept: a fold over all that is behind, which is several times as quick as to stop at the first that is not.
+        self.room.split_at_checked(text.len()).is_some_and(|(front, behind)| front == text
+            && behind.iter().fold(0, |apart, byte| apart | byte ^ FILLER) == 0)
     }
-}
-
-// What a call of the reader told, and what it left of the state, with all its room.
-#[derive(Clone, Copy)]
-pub(super) struct Left {
-    pub(super) told: Answer,
-    pub(super) state: State,
 }
 
 // An answer of the library as our own.
@@ -60,17 +53,15 @@ fn told(answer: meaning::Answer) -> io::Result<Answer> {
     Ok(told)
 }
 
-// Reads the batch into the state.
-pub(super) fn read(lists: Lists<'_>) -> io::Result<Left> {
+// Reads the batch into a copy of the state.
+pub(super) fn read(lists: Lists<'_>, copy: &mut State) -> io::Result<Answer> {
     let more = lists.count();
-    let mut state = *lists.state;
-    let answer = reader::read(
+    *copy = *lists.state;
+    told(reader::read(
         lists.batch.lent(more),
         lists.grants.lent(more),
-        state.lent_mut(more),
-    );
-    let told = told(answer)?;
-    Ok(Left { told, state })
+        copy.lent_mut(more),
+    ))
 }
 
 // Lists the state into a room of so many bytes.

@@ -35,12 +35,14 @@ impl Run {
 
     // What stands behind the last line end is no line, but can be a listing's last.
     pub(super) fn page(&mut self, page: &[u8]) -> io::Result<()> {
+        // Kept: one line for all, since to hand one over takes longer than to read it.
+        let mut cases = Line::new();
         let mut end = 0usize;
         for line in page.split_inclusive(|byte| *byte == b'\n') {
             end = end.wrapping_add(line.len());
             if let [text @ .., b'\n'] = line {
                 self.checker.tally.begin_line();
-                self.line(text, page.get(end..).unwrap_or(&[]))?;
+                self.line(text, page.get(end..).unwrap_or(&[]), &mut cases)?;
             }
         }
         Ok(())
@@ -51,7 +53,7 @@ impl Run {
     }
 
     // A line, and those below it.
-    fn line(&mut self, text: &[u8], below: &[u8]) -> io::Result<()> {
+    fn line(&mut self, text: &[u8], below: &[u8], cases: &mut Line) -> io::Result<()> {
         let Some(first) = text.first().copied() else {
             return Ok(());
         };
@@ -60,17 +62,19 @@ impl Run {
             return self.checker.tally.begin_family(name);
         }
         match Kind::of(first) {
-            Some(kind) => self.cases(kind, text, below),
+            Some(kind) => {
+                cases.read(text, &mut self.pool);
+                self.cases(kind, cases, below)
+            }
             None => Ok(()),
         }
     }
 
     // A line with cases of that kind.
-    fn cases(&mut self, kind: Kind, text: &[u8], below: &[u8]) -> io::Result<()> {
-        let line = Line::parse(text, &mut self.pool);
+    fn cases(&mut self, kind: Kind, line: &mut Line, below: &[u8]) -> io::Result<()> {
         match kind {
-            Kind::Written => self.written(&line),
-            Kind::Entered => self.entered(&line, &line.entry),
+            Kind::Written => self.written(line),
+            Kind::Entered => self.entered(line, &line.entry),
             Kind::Sweep => self.sweep(line),
             Kind::Packet => {
                 self.pool.add(&line.batch);
@@ -81,7 +85,7 @@ impl Run {
                 let [cases] = line.first::<1>();
                 pairs::go_through(self.alloc, &mut self.checker, cases)
             }
-            Kind::Listing => self.listing(&line, listing_in(below)),
+            Kind::Listing => self.listing(line, listing_in(below)),
         }
     }
 
@@ -95,7 +99,8 @@ impl Run {
         self.case_alone(line, state)?;
         for packets in 1..=MOST_FRONT {
             self.checker.tally.begin_case(packets);
-            let mut batch = self.front(packets);
+            let mut batch = List::new();
+            self.push_front(packets, &mut batch);
             let stated = line.stated_behind(batch.len());
             batch.push_all(&line.batch);
             let lists = Lists {
@@ -114,50 +119,50 @@ impl Run {
             grants: &line.grants,
             state,
         };
-        let due = state.with(&line.listed);
+        let mut due = *state;
+        due.store_all(&line.listed);
         self.checker
             .check_stored(lists, line.stated_behind(0), &due)
     }
 
     // Whole packets of the pool, that any grants permit.
-    fn front(&self, packets: u32) -> List {
-        let mut batch = List::new();
+    fn push_front(&self, packets: u32, batch: &mut List) {
         for packet in 0..packets {
-            self.pool.push_packet((packet % FRONT) as usize, &mut batch);
+            self.pool.push_packet((packet % FRONT) as usize, batch);
         }
-        batch
     }
 
     // Every code of the field, under as many sub-types as the line says.
-    fn sweep(&mut self, mut line: Line) -> io::Result<()> {
-        let sweep = Sweep::on(&line);
+    fn sweep(&mut self, line: &mut Line) -> io::Result<()> {
+        let sweep = Sweep::on(line);
         for _ in 0..sweep.times {
-            self.sweep_codes(&sweep, &line)?;
+            self.sweep_codes(&sweep, line)?;
             let setting = line.batch.get(1);
             line.batch.put(1, setting.wrapping_add(0x01000000));
         }
         Ok(())
     }
 
-    fn sweep_codes(&mut self, sweep: &Sweep, line: &Line) -> io::Result<()> {
+    // Kept: the line's own batch takes the codes, since a copy for each takes longer than to read it.
+    fn sweep_codes(&mut self, sweep: &Sweep, line: &mut Line) -> io::Result<()> {
         let word = line.batch.get(sweep.at);
         for code in 0..sweep.codes {
             self.checker.tally.begin_case(code);
-            let mut batch = line.batch;
-            batch.put(sweep.at, sweep.change.of(word, code));
+            line.batch.put(sweep.at, sweep.change.of(word, code));
             let lists = Lists {
-                batch: &batch,
+                batch: &line.batch,
                 grants: &line.grants,
                 state: &line.entry,
             };
             self.checker
                 .check_read(lists, sweep.expected(code, &line.listed))?;
         }
+        line.batch.put(sweep.at, word);
         Ok(())
     }
 
-    fn lengths(&mut self, mut line: Line) -> io::Result<()> {
-        let lengths = Lengths::on(&line);
+    fn lengths(&mut self, line: &mut Line) -> io::Result<()> {
+        let lengths = Lengths::on(line);
         for length in 0..lengths.most {
             self.checker.tally.begin_case(length);
             match lengths.cut {
@@ -181,7 +186,8 @@ impl Run {
 
     // The state with the line's cells is listed as that text; and the two listers agree in every room.
     fn listing(&mut self, line: &Line, text: &[u8]) -> io::Result<()> {
-        let state = line.entry.with(&line.listed);
+        let mut state = line.entry;
+        state.store_all(&line.listed);
         self.checker.check_text(state.list(), text)?;
         for room in 0..=WIDE {
             self.checker.check_list(state.list(), room)?;

@@ -52,27 +52,22 @@ impl<'a> Cells<'a> {
         }
     }
 
-    fn count(&self) -> usize {
-        self.marks.iter().filter(|mark| is_marked(mark)).count()
-    }
-
-    // How many bytes the listing has.
-    fn length(&self) -> usize {
-        let head = match self.count() {
-            0..=9 => 8,
-            10..=99 => 9,
-            _ => 10,
-        };
+    // How many are marked, and how many bytes their lines have.
+    fn marked(&self) -> Marked {
         self.marks
             .iter()
             .enumerate()
             .filter(|(_, mark)| is_marked(mark))
             .map(|(cell, _)| if cell < FIRST_VIDEO { 26 } else { 22 })
-            .fold(head, usize::wrapping_add)
+            .fold(
+                Marked { cells: 0, bytes: 0 },
+                |marked, bytes| marked.with_line(bytes),
+            )
     }
 
-    fn text(&self, alloc: Global) -> Result<String, AllocError> {
-        let mut text = format!(in alloc; "cells={}\n", self.count())?;
+    fn text(&self, alloc: Global, marked: Marked) -> Result<String, AllocError> {
+        let mut text = String::with_capacity(alloc, marked.length())?;
+        writeln!(text, "cells={}", marked.cells)?;
         for ((name, value), mark) in NAMES.iter().zip(self.values).zip(self.marks) {
             if is_marked(mark) {
                 let value = number(value);
@@ -80,6 +75,32 @@ impl<'a> Cells<'a> {
             }
         }
         Ok(text)
+    }
+}
+
+// Cells, and the bytes of their lines.
+#[derive(Clone, Copy)]
+struct Marked {
+    cells: usize,
+    bytes: usize,
+}
+
+impl Marked {
+    fn with_line(self, bytes: usize) -> Marked {
+        Marked {
+            cells: self.cells.wrapping_add(1),
+            bytes: self.bytes.wrapping_add(bytes),
+        }
+    }
+
+    // How many bytes the listing has.
+    fn length(self) -> usize {
+        let head = match self.cells {
+            0..=9 => 8,
+            10..=99 => 9,
+            _ => 10,
+        };
+        self.bytes.wrapping_add(head)
     }
 }
 
@@ -93,9 +114,10 @@ pub(super) fn list(
     let Some(cells) = Cells::of(state) else {
         return Ok((Err(Refusal::at(Reason::BadState, 0)), String::new(alloc)));
     };
-    let length = cells.length();
+    let marked = cells.marked();
+    let length = marked.length();
     if room < length {
         return Ok((Err(Refusal::at(Reason::NoRoom, 0)), String::new(alloc)));
     }
-    Ok((Ok(length), cells.text(alloc)?))
+    Ok((Ok(length), cells.text(alloc, marked)?))
 }

@@ -6,29 +6,41 @@ use std::array;
 // A word as it is lent: the lowest byte first.
 pub(super) type Word = [u8; 4];
 
-const ROOM: usize = 1024;
+// The bytes of 1,024 words.
+const ROOM: usize = 4096;
 
 const LENGTH: usize = 1023;
 
+// Kept: a room of bytes, which two lists are compared by: by words it takes several times as long.
 #[derive(Clone, Copy, PartialEq, Eq)]
 pub(super) struct List {
-    room: [Word; ROOM],
+    room: [u8; ROOM],
 }
 
 impl List {
     // A list with no word, in a room of zeros.
     pub(super) fn new() -> List {
-        List {
-            room: [[0; 4]; ROOM],
-        }
+        List { room: [0; ROOM] }
+    }
+
+    // No word, and zeros in all the room.
+    pub(super) fn clear(&mut self) {
+        self.room = [0; ROOM];
+    }
+
+    // The words of the room.
+    fn places(&self) -> &[Word] {
+        let (places, _) = self.room[..].as_chunks::<4>();
+        places
     }
 
     pub(super) fn get(&self, i: usize) -> u32 {
-        self.room.get(i).copied().map_or(0, u32::from_le_bytes)
+        self.places().get(i).copied().map_or(0, u32::from_le_bytes)
     }
 
     pub(super) fn put(&mut self, i: usize, word: u32) {
-        if let Some(place) = self.room.get_mut(i) {
+        let (places, _) = self.room[..].as_chunks_mut::<4>();
+        if let Some(place) = places.get_mut(i) {
             *place = word.to_le_bytes();
         }
     }
@@ -70,18 +82,20 @@ impl List {
 
     // The list's words, or the whole room where it says that they are more.
     pub(super) fn words(&self) -> &[Word] {
-        self.room.get(..self.len() as usize).unwrap_or(&self.room)
+        let places = self.places();
+        places.get(..self.len() as usize).unwrap_or(places)
     }
 
     // The list as it is lent, with none to three bytes of the room behind it.
     pub(super) fn lent(&self, more: usize) -> &[u8] {
-        let bytes = self.room.as_flattened();
-        bytes.get(..self.lent_length(more)).unwrap_or(bytes)
+        self.room
+            .get(..self.lent_length(more))
+            .unwrap_or(&self.room)
     }
 
     pub(super) fn lent_mut(&mut self, more: usize) -> &mut [u8] {
         let length = self.lent_length(more);
-        let bytes = self.room.as_flattened_mut();
+        let bytes = &mut self.room[..];
         let length = length.min(bytes.len());
         &mut bytes[..length]
     }

@@ -26,7 +26,8 @@ const MOST_BYTES: u64 = 65536;
 
 fn main(rt: HostRuntime) -> io::Result<()> {
     let alloc = rt.alloc();
-    let mut page = Vec::new(alloc);
+    // Kept: room for all of it at once, so that no room is left behind on the way.
+    let mut page = Vec::with_capacity(alloc, MOST_BYTES as usize)?;
     rt.stdin().take(MOST_BYTES).read_to_end(&mut page)?;
     let mut run = Run::new(alloc, rt);
     run.page(&page)?;

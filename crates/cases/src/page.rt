@@ -93,33 +93,46 @@ pub(super) struct Line {
     pub(super) listed: List,
     pub(super) grants: List,
     pub(super) batch: List,
-    // The state that its cases start from: empty but for the last part's cells.
+    // The last part's cells, and the state that its cases start from: empty but for these.
+    cells: List,
     pub(super) entry: State,
 }
 
 impl Line {
+    // A line with nothing in it.
+    pub(super) fn new() -> Line {
+        Line {
+            numbers: List::new(),
+            listed: List::new(),
+            grants: List::new(),
+            batch: List::new(),
+            cells: List::new(),
+            entry: State::empty(),
+        }
+    }
+
+    // Becomes the line of that text.
     // Kept: the numbers of a sixth part go into the pool, as words, and those of a seventh, as starts.
-    pub(super) fn parse(text: &[u8], pool: &mut Pool) -> Line {
+    pub(super) fn read(&mut self, text: &[u8], pool: &mut Pool) {
+        self.clear();
         let mut parts = text.split(|byte| *byte == b'|');
-        let mut numbers = List::new();
-        let mut listed = List::new();
-        let mut grants = List::new();
-        let mut batch = List::new();
-        let mut cells = List::new();
-        push_numbers(&mut numbers, parts.next());
-        push_numbers(&mut listed, parts.next());
-        push_numbers(&mut grants, parts.next());
-        push_numbers(&mut batch, parts.next());
-        push_numbers(&mut cells, parts.next());
+        push_numbers(&mut self.numbers, parts.next());
+        push_numbers(&mut self.listed, parts.next());
+        push_numbers(&mut self.grants, parts.next());
+        push_numbers(&mut self.batch, parts.next());
+        push_numbers(&mut self.cells, parts.next());
         push_numbers(&mut pool.words, parts.next());
         push_numbers(&mut pool.starts, parts.next());
-        Line {
-            numbers,
-            listed,
-            grants,
-            batch,
-            entry: State::empty().with(&cells),
-        }
+        self.entry.store_all(&self.cells);
+    }
+
+    fn clear(&mut self) {
+        self.numbers.clear();
+        self.listed.clear();
+        self.grants.clear();
+        self.batch.clear();
+        self.cells.clear();
+        self.entry.clear();
     }
 
     // The first N of its numbers.

@@ -33,12 +33,17 @@ impl State {
         self.list.put(cell.wrapping_add(CELLS), 1);
     }
 
-    // The state with more stored: each cell's number, and behind it its value.
-    pub(super) fn with(mut self, cells: &List) -> State {
+    // Becomes the empty state.
+    pub(super) fn clear(&mut self) {
+        self.list.clear();
+        self.list.cut(STATE_WORDS);
+    }
+
+    // Stores more: each cell's number, and behind it its value.
+    pub(super) fn store_all(&mut self, cells: &List) {
         for i in (0..cells.len() as usize).step_by(2) {
             self.store(cells.get(i) as usize, cells.get(i.wrapping_add(1)));
         }
-        self
     }
 
     pub(super) fn cut(&mut self, length: u32) {
@@ -47,6 +52,11 @@ impl State {
 
     pub(super) fn list(&self) -> &List {
         &self.list
+    }
+
+    // Changes a word, be it a value or a mark.
+    pub(super) fn put(&mut self, i: usize, word: u32) {
+        self.list.put(i, word);
     }
 
     pub(super) fn lent_mut(&mut self, more: usize) -> &mut [u8] {

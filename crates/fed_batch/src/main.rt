@@ -112,7 +112,8 @@ fn feed(batch: &[u8], grants: &[u8]) -> Told {
 }
 
 fn main(rt: HostRuntime) -> io::Result<()> {
-    let mut batch = Vec::new(rt.alloc());
+    // Kept: room for all of it at once, so that no room is left behind on the way.
+    let mut batch = Vec::with_capacity(rt.alloc(), MOST_BYTES as usize)?;
     rt.stdin().take(MOST_BYTES).read_to_end(&mut batch)?;
     println!(rt; "{}", feed(&batch, &grant_bytes(rt.alloc())?))
 }

@@ -13,10 +13,13 @@ pub(super) const STATE_BYTES: usize = 4 * STATE_WORDS;
 pub(super) type Word = [u8; 4];
 
 pub(super) fn bytes_of(alloc: Global, words: &[u32]) -> Result<Vec<u8>, AllocError> {
-    words
-        .iter()
-        .flat_map(|word| word.to_le_bytes())
-        .collect(alloc)
+    let mut bytes = vec![in alloc; 0u8; words.len().wrapping_mul(4)]?;
+    // Kept: over places that are there, which is quicker than to collect bytes.
+    let (places, _) = bytes[..].as_chunks_mut::<4>();
+    for (place, word) in places.iter_mut().zip(words) {
+        *place = word.to_le_bytes();
+    }
+    Ok(bytes)
 }
 
 // What stands in a cell. By default it is not marked, and holds nothing.

@@ -26,7 +26,8 @@ use std::io::Read;
 const ROOM: u64 = 65536;
 
 fn main(rt: HostRuntime) -> io::Result<()> {
-    let mut page = Vec::new(rt.alloc());
+    // Kept: room for all of it at once, so that no room is left behind on the way.
+    let mut page = Vec::with_capacity(rt.alloc(), ROOM as usize)?;
     rt.stdin().take(ROOM).read_to_end(&mut page)?;
     let mut run = Run::new(rt);
     run.run_page(&page)?;

@@ -96,6 +96,7 @@ use Rattle.emitter_3d.proofs.emit_3d.Reads as emit_3d
 use Rattle.emitter.proofs.emit.Reads as emit
 use Rattle.lines.proofs.put_line_3d.Reads as put_line_3d
 use Rattle.lines.proofs.put_line_video.Reads as put_line_video
+use Rattle.asking.proofs.part_in.Reads as byte_part_in
 use Rattle.asking.proofs.Stored.part_of.Reads as byte_part_of
 use Rattle.asking.proofs.ask.Reads as ask
 use Rattle.engine.proofs.open.Reads as engine_open
@@ -124,6 +125,10 @@ AsksExactly P Q = (κs : _) (a : _) → P κs a ↔ Q κs a
 -- since it is what the contract says
 asks_this {ℓ} : {A : Type ℓ} → A ↔ A
 asks_this = (λ p. p, λ p. p)
+
+-- or what it says and what an argument's type carries
+asks_beside {ℓ} : {A B : Type ℓ} → B → A ↔ (A × B)
+asks_beside b = (λ p. (p, b), λ q. q.0)
 
 -- ==== The calls
 
@@ -269,9 +274,9 @@ role_grants_ask s l n p = (
 )
 
 -- and those of all roles that each part does
-pub kept_asks : (starts lasts numbers bounds : _)
+pub kept_ask : (starts lasts numbers bounds : _)
     → ((k : Kept) × ((k.starts ≡ starts) × ((k.lasts ≡ lasts) × ((k.numbers ≡ numbers) × (k.bounds ≡ bounds))))) ↔ Bounded bounds.now
-kept_asks s l n b = (
+kept_ask s l n b = (
   λ (k, (_, (_, (_, same)))). subst (λ c. Bounded c.now) same k.bounded,
   λ bounded. (record { starts = s; lasts = l; numbers = n; bounds = b; bounded = bounded }, (refl, (refl, (refl, refl)))),
 )
@@ -282,8 +287,8 @@ part_by_asks κs a = asks_this
 pub part_of_asks : AsksExactly part_of.Asked (λ _ (_, (role, _)). role < 4)
 part_of_asks κs a = asks_this
 
-pub which_asks : AsksNothing which.Asked
-which_asks κs a = nothing_asked
+pub which_asks : AsksExactly which.Asked (λ _ (part, _). part.now.part.to ≤ most_grants)
+which_asks κs a = (λ _. a.0.now.inside, λ _. nothing_asked)
 
 -- ---- keeping
 
@@ -296,14 +301,14 @@ place_asks κs a = asks_this
 
 -- ---- pair
 
-pub pair_which_asks : AsksExactly pair_which.Asked (λ _ (state, _). length (words_of state.now) ≡ state_words)
-pair_which_asks κs a = asks_this
+pub pair_which_asks : AsksExactly pair_which.Asked (λ _ (state, (part, _)). (length (words_of state.now) ≡ state_words) × (part.now.part.to ≤ most_grants))
+pair_which_asks κs a = asks_beside a.1.0.now.inside
 
-pub pair_fine_asks : AsksExactly pair_fine.Asked (λ _ (state, (part, (known, _))). (length (words_of state.now) ≡ state_words) × (known ≡ true → KnownBy part.now (words_of state.now)))
-pair_fine_asks κs a = asks_this
+pub pair_fine_asks : AsksExactly pair_fine.Asked (λ _ (state, (part, (known, _))). ((length (words_of state.now) ≡ state_words) × (known ≡ true → KnownBy part.now (words_of state.now))) × (part.now.part.to ≤ most_grants))
+pair_fine_asks κs a = asks_beside a.1.0.now.inside
 
-pub pair_kept_asks : AsksExactly pair_kept.Asked (λ _ (_, (_, (own, (part, (known, _))))). (length own.now ≡ state_words) × (known ≡ true → KnownBy part.now own.now))
-pair_kept_asks κs a = asks_this
+pub pair_kept_asks : AsksExactly pair_kept.Asked (λ _ (_, (_, (own, (part, (known, _))))). ((length own.now ≡ state_words) × (known ≡ true → KnownBy part.now own.now)) × (part.now.part.to ≤ most_grants))
+pair_kept_asks κs a = asks_beside a.1.1.1.0.now.inside
 
 -- ---- rules
 
@@ -347,8 +352,8 @@ alpha_constants_reason_asks κs a = nothing_asked
 pub target_address_asks : AsksExactly target_address.Asked (λ _ (value, _). value < 2 ^ 24)
 target_address_asks κs a = asks_this
 
-pub target_address_reason_asks : AsksExactly target_address_reason.Asked (λ _ (value, _). value < 2 ^ 24)
-target_address_reason_asks κs a = asks_this
+pub target_address_reason_asks : AsksExactly target_address_reason.Asked (λ _ (value, (part, _)). (value < 2 ^ 24) × (part.now.part.to ≤ most_grants))
+target_address_reason_asks κs a = asks_beside a.1.0.now.inside
 
 pub location_reason_asks : AsksNothing location_reason.Asked
 location_reason_asks κs a = nothing_asked
@@ -385,11 +390,11 @@ sub_picture_reason_asks κs a = nothing_asked
 pub scaler_address_asks : AsksNothing scaler_address.Asked
 scaler_address_asks κs a = nothing_asked
 
-pub first_address_reason_asks : AsksNothing first_address_reason.Asked
-first_address_reason_asks κs a = nothing_asked
+pub first_address_reason_asks : AsksExactly first_address_reason.Asked (λ _ (_, (part, _)). part.now.part.to ≤ most_grants)
+first_address_reason_asks κs a = (λ _. a.1.0.now.inside, λ _. nothing_asked)
 
-pub address_reason_asks : AsksNothing address_reason.Asked
-address_reason_asks κs a = nothing_asked
+pub address_reason_asks : AsksExactly address_reason.Asked (λ _ (_, (part, _)). part.now.part.to ≤ most_grants)
+address_reason_asks κs a = (λ _. a.1.0.now.inside, λ _. nothing_asked)
 
 pub destination_stride_reason_asks : AsksNothing destination_stride_reason.Asked
 destination_stride_reason_asks κs a = nothing_asked
@@ -407,43 +412,43 @@ group_of_asks κs a = nothing_asked
 
 -- ---- judging
 
-pub judge_parameter_asks : AsksExactly judge_parameter.Asked (λ _ (group, (_, (value, _))). IsGroup group × (value < 2 ^ 24))
-judge_parameter_asks κs a = asks_this
+pub judge_parameter_asks : AsksExactly judge_parameter.Asked (λ _ (group, (_, (value, (part, _)))). (IsGroup group × (value < 2 ^ 24)) × (part.now.part.to ≤ most_grants))
+judge_parameter_asks κs a = asks_beside a.1.1.1.0.now.inside
 
 pub overlay_word_asks : AsksExactly overlay_word.Asked (λ _ (index, _). index < 3)
 overlay_word_asks κs a = asks_this
 
-pub scaler_word_asks : AsksExactly scaler_word.Asked (λ _ (index, _). index < 7)
-scaler_word_asks κs a = asks_this
+pub scaler_word_asks : AsksExactly scaler_word.Asked (λ _ (index, (_, (part, _))). (index < 7) × (part.now.part.to ≤ most_grants))
+scaler_word_asks κs a = asks_beside a.1.1.0.now.inside
 
 -- ---- cells
 
-pub fine_asks : AsksExactly fine.Asked (λ _ (state, (cell, (row, _))). T (well_formed (words_of state.now)) × IsRow row cell.0)
-fine_asks κs a = asks_this
+pub fine_asks : AsksExactly fine.Asked (λ _ (state, (cell, (row, (part, _)))). (T (well_formed (words_of state.now)) × IsRow row cell.0) × (part.now.part.to ≤ most_grants))
+fine_asks κs a = asks_beside a.1.1.1.0.now.inside
 
 -- ---- bodies
 
-pub take_parameters_asks : AsksExactly take_parameters.Asked (λ _ (batch, (first, (end, (group, _)))). Places first end batch.now × IsGroup group)
-take_parameters_asks κs a = asks_this
+pub take_parameters_asks : AsksExactly take_parameters.Asked (λ _ (batch, (first, (end, (group, (part, _))))). (Places first end batch.now × IsGroup group) × (part.now.part.to ≤ most_grants))
+take_parameters_asks κs a = asks_beside a.1.1.1.1.0.now.inside
 
 pub take_overlay_asks : AsksExactly take_overlay.Asked (λ _ (batch, (first, (end, (index, _)))). Places first end batch.now × (index + (end - first) ≤ 3))
 take_overlay_asks κs a = asks_this
 
-pub take_scaler_asks : AsksExactly take_scaler.Asked (λ _ (batch, (first, (end, (base, (index, _))))). Places first end batch.now × ((index + (end - first) ≤ 7) × IsScaler base.0))
-take_scaler_asks κs a = asks_this
+pub take_scaler_asks : AsksExactly take_scaler.Asked (λ _ (batch, (first, (end, (base, (index, (part, _)))))). (Places first end batch.now × ((index + (end - first) ≤ 7) × IsScaler base.0)) × (part.now.part.to ≤ most_grants))
+take_scaler_asks κs a = asks_beside a.1.1.1.1.1.0.now.inside
 
 -- ---- packets
 
-pub read_packet_asks : AsksExactly read_packet.Asked (λ _ (batch, (at, _)). at < length batch.now / 4)
-read_packet_asks κs a = asks_this
+pub read_packet_asks : AsksExactly read_packet.Asked (λ _ (batch, (at, (kept, _))). (at < length batch.now / 4) × Bounded kept.now.bounds.now)
+read_packet_asks κs a = asks_beside a.1.1.0.now.bounded
 
-pub read_packets_asks : AsksNothing read_packets.Asked
-read_packets_asks κs a = nothing_asked
+pub read_packets_asks : AsksExactly read_packets.Asked (λ _ (_, (kept, _)). Bounded kept.now.bounds.now)
+read_packets_asks κs a = (λ _. a.1.0.now.bounded, λ _. nothing_asked)
 
 -- ---- search
 
-pub lowest_bad_asks : AsksExactly lowest_bad.Asked (λ _ (state, _). T (well_formed (words_of state.now)))
-lowest_bad_asks κs a = asks_this
+pub lowest_bad_asks : AsksExactly lowest_bad.Asked (λ _ (state, (kept, _)). T (well_formed (words_of state.now)) × Bounded kept.now.bounds.now)
+lowest_bad_asks κs a = asks_beside a.1.0.now.bounded
 
 -- ---- needs
 
@@ -477,6 +482,9 @@ pub furthest_asks : AsksExactly furthest.Asked (λ _ (text, (at, (first, (end, _
 furthest_asks κs a = asks_this
 
 -- ---- words one at a time
+
+pub byte_part_in_asks : AsksExactly byte_part_in.Asked (λ _ (_, (role, _)). role < 4)
+byte_part_in_asks κs a = asks_this
 
 pub byte_part_of_asks : AsksExactly byte_part_of.Asked (λ _ (_, (role, _)). role < 4)
 byte_part_of_asks κs a = asks_this

@@ -84,6 +84,7 @@ use Rattle.pair.proofs.which.Reads as pair_which
 use Rattle.pair.proofs.fine.Reads as pair_fine
 use Rattle.pair.proofs.kept.Reads as pair_kept
 use Rattle.asking.specs.Asked.{capped}
+use Rattle.asking.proofs.part_in.Reads as byte_part_in
 use Rattle.asking.proofs.Stored.part_of.Reads as byte_part_of
 use Rattle.asking.proofs.ask.Reads as ask
 use Rattle.engine.proofs.open.Reads as engine_open
@@ -432,6 +433,9 @@ read_packets_one κs a r r' s s' p q =
     (one_result r r' (one_answer (p.0 k.0 k.1) (q.0 k.0 k.1)), one_answer (p.1 k.0 k.1) (q.1 k.0 k.1))
 
 -- whatever an engine keeps keeps some grants
+pub byte_part_in_one : Determined byte_part_in.Learnt
+byte_part_in_one κs a r r' s s' p q = one_answer p.0 q.0
+
 pub byte_part_of_one : Determined byte_part_of.Learnt
 byte_part_of_one κs a r r' s s' p q =
     one_role r r' (one_answer p.starts q.starts) (one_answer p.lasts q.lasts) (one_answer p.numbers q.numbers) (one_answer p.part q.part)

@@ -58,7 +58,7 @@ abbrev pub Querying : List ℕ → List ℕ → ℕ → Answer → Type 0
 Querying st grants c a = a ≡ query_answer (words_of st) (words_of grants) (cell c)
 
 -- the test that all of them use: in the part of a role of what `keeping::place` left of a grant list, in whatever room it was lent,
--- `grants::which` answers w to an address, in whichever memory or in one
+-- `which` of `RoleGrants` answers w to an address, in whichever memory or in one
 pub record Testing (ws : List ℕ) (m : Memory) (role a : ℕ) (w : Option ℕ) : Type 0 where
   pub starts : List ℕ
   pub lasts : List ℕ
