@@ -9,7 +9,6 @@ use super::answer::Answer;
 use super::families::Family;
 use super::lent::{Content, bytes_of};
 use super::run::Run;
-use std::alloc::{AllocError, Global};
 use std::io;
 
 // So many numbers of a line are kept, but for the last of them, with which the list is empty again. What then follows
@@ -38,30 +37,54 @@ fn number(word: &[u8]) -> u32 {
     number
 }
 
-// The numbers of a line, one behind each space.
-fn numbers(alloc: Global, text: &[u8]) -> Result<Vec<u32>, AllocError> {
-    text.split(|byte| *byte == b' ')
-        .skip(1)
-        .map(number)
-        .collect(alloc)
+// The numbers of a line. Kept: in places that are there, whatever the line has.
+#[derive(Clone, Copy)]
+struct Numbers {
+    places: [u32; ROOM],
+    // The place that the next number takes.
+    next: usize,
 }
 
-// The numbers in the first places; each that the line does not have is 0.
-fn first<const N: usize>(numbers: &[u32]) -> [u32; N] {
-    let mut first = [0; N];
-    for list in numbers.chunks(ROOM) {
-        for (place, number) in first.iter_mut().zip(list) {
+impl Numbers {
+    // One behind each space.
+    fn read(text: &[u8]) -> Numbers {
+        let mut numbers = Numbers {
+            places: [0; ROOM],
+            next: 0,
+        };
+        for word in text.split(|byte| *byte == b' ').skip(1) {
+            numbers.push(number(word));
+        }
+        numbers
+    }
+
+    fn push(&mut self, number: u32) {
+        if let Some(place) = self.places.get_mut(self.next) {
+            *place = number;
+        }
+        self.next = self.next.wrapping_add(1) % ROOM;
+    }
+
+    // Those in the first places; each that the line does not have is 0.
+    fn first<const N: usize>(&self) -> [u32; N] {
+        let mut first = [0; N];
+        for (place, number) in first.iter_mut().zip(self.places.iter()) {
             *place = *number;
         }
+        first
     }
-    first
+
+    // The list as it stands.
+    fn list(&self) -> &[u32] {
+        self.places.get(..self.next).unwrap_or(&self.places)
+    }
 }
 
 impl<R: Print + AllocGlobal> Run<R> {
     // A line's numbers are the cell, its mark and its value in the empty state, and the answer; then how many more calls
     // have that answer, and by how much the cell and the value grow from each to the next.
-    fn run_calls(&mut self, numbers: &[u32]) -> io::Result<()> {
-        let [cell, mark, value, stated, more, cell_step, value_step] = first::<7>(numbers);
+    fn run_calls(&mut self, numbers: &Numbers) -> io::Result<()> {
+        let [cell, mark, value, stated, more, cell_step, value_step] = numbers.first::<7>();
         let mut cell = cell as usize;
         let mut content = Content { mark, value };
         for _ in 0..=more {
@@ -73,8 +96,8 @@ impl<R: Print + AllocGlobal> Run<R> {
         Ok(())
     }
 
-    fn run_family(&mut self, numbers: &[u32]) -> io::Result<()> {
-        let [family, calls] = first::<2>(numbers);
+    fn run_family(&mut self, numbers: &Numbers) -> io::Result<()> {
+        let [family, calls] = numbers.first::<2>();
         let family = Family::from(family);
         for k in 0..calls {
             self.turn(family, k)?;
@@ -83,25 +106,24 @@ impl<R: Print + AllocGlobal> Run<R> {
     }
 
     // The words of the list as it stands at the end of the line.
-    fn take_grants(&mut self, numbers: &[u32]) -> io::Result<()> {
-        let (_, words) = numbers.as_chunks::<ROOM>();
-        self.case.grants = bytes_of(self.rt.alloc(), words)?;
+    fn take_grants(&mut self, numbers: &Numbers) -> io::Result<()> {
+        self.case.grants = bytes_of(self.rt.alloc(), numbers.list())?;
         Ok(())
     }
 
-    fn take_location(&mut self, numbers: &[u32]) {
-        let [mark, value] = first::<2>(numbers);
+    fn take_location(&mut self, numbers: &Numbers) {
+        let [mark, value] = numbers.first::<2>();
         self.location = Content { mark, value };
     }
 
-    fn tell_counts(&self, numbers: &[u32]) -> io::Result<()> {
-        let [first, n] = first::<2>(numbers);
+    fn tell_counts(&self, numbers: &Numbers) -> io::Result<()> {
+        let [first, n] = numbers.first::<2>();
         self.tally.tell_counts(&self.rt, first, n)
     }
 
     // A line that is for that.
     fn run_line(&mut self, what: u8, text: &[u8]) -> io::Result<()> {
-        let numbers = numbers(self.rt.alloc(), text)?;
+        let numbers = Numbers::read(text);
         match what {
             b'g' => self.take_grants(&numbers)?,
             b'l' => self.take_location(&numbers),
